@@ -1,10 +1,9 @@
--- Laws of tables of refusals: a call refuses exactly when a row applies, and then with the lowest that does.
+-- Laws of tables of refusals: a call refuses exactly when a row applies, and then with the lowest that does (`exactly`).
 -- Assumes nothing.
-use Prim.Native.Nat.{ℕ, zero, suc, _≤_, _<_}
+use Prim.Native.Nat.{ℕ, _≤_, _<_}
 use native.Mathlib.Omega.{arith}
-use native.Mathlib.Nat.{le-refl}
-use mathlib.Core.Path.{_≡_, refl, sym, ap, _∙_}
-use mathlib.Core.Bool.{Bool, true, false, cond, _&&_}
+use mathlib.Core.Path.{_≡_, refl, sym, _∙_}
+use mathlib.Core.Bool.{Bool, true, false, _&&_}
 use mathlib.Core.List.{List, [], _∷_, _++_}
 use mathlib.Core.Logic.{_⊎_, inl, inr}
 use lib.Dec.{T, ltb, ltb→lt}
@@ -43,6 +42,10 @@ given-clear (r ∷ rs) a b e = go (given-clear rs a b) (r .applies) refl
     go f true p = absurd (given≢refused (sym (simp p at e)))
     go f false p = (p, f (simp p at e))
 
+-- and then the result is the call's own
+pub given-same : {A : Type 0} (rs : List Rule) (a b : A) → lowest rs a ≡ given b → a ≡ b
+given-same rs a b e = let q : given a ≡ given b = sym (clear-given rs a (given-clear rs a b e)) ∙ e in cc
+
 pub refused-applies : {A : Type 0} (rs : List Rule) (a : A) (n p : ℕ) → lowest rs a ≡ refused n p → Applies rs n p
 refused-applies [] a n p e = given≢refused e
 refused-applies (r ∷ rs) a n p e = go (refused-applies rs a n p) (r .applies) refl
@@ -64,6 +67,11 @@ refused-more (r ∷ rs) more a b n p e = go (refused-more rs more a b n p) (r .a
 pub clear-more : {A : Type 0} (rs more : List Rule) (a : A) → Clear rs → lowest (rs ++ more) a ≡ lowest more a
 clear-more [] more a c = refl
 clear-more (r ∷ rs) more a c = rw (c .0) (clear-more rs more a (c .1))
+
+-- the front of a table where no row applies
+pub clear-front : (rs more : List Rule) → Clear (rs ++ more) → Clear rs
+clear-front [] more c = tt
+clear-front (r ∷ rs) more c = (c .0, clear-front rs more (c .1))
 
 -- ---- "the lowest is given"
 
@@ -95,7 +103,45 @@ lowest-from m (r ∷ rs) a n p t e =
         (λ b. omega arith, above (r .number) n rs up (omega arith))
     go up f false h = (λ b. absurd (let z : true ≡ false = sym b ∙ h in let y : _≡_ {A = ℕ} 0 1 = cc in omega arith), f (simp h at e))
 
--- In a table whose numbers rise: a call refuses with n exactly where a row of that number applies and none below it
-pub lowest-is-lowest : {A : Type 0} (rs : List Rule) (a : A) (n p : ℕ) → T (rising rs) → lowest rs a ≡ refused n p
-    → Applies rs n p × NoneBelow rs n
-lowest-is-lowest rs a n p t e = (refused-applies rs a n p e, lowest-from 0 rs a n p t e)
+-- a row that applies has a number above that from which the table rises
+applies-above : (m : ℕ) (rs : List Rule) (n p : ℕ) → T (risingFrom m rs) → Applies rs n p → m < n
+applies-above m (r ∷ rs) n p t (inl h) =
+    let l : m < r .number = ltb→lt m (r .number) (both-left (ltb m (r .number)) (risingFrom (r .number) rs) t) in
+    let e : r .number ≡ n = h .1 in
+    omega arith
+applies-above m (r ∷ rs) n p t (inr h) =
+    let l : m < r .number = ltb→lt m (r .number) (both-left (ltb m (r .number)) (risingFrom (r .number) rs) t) in
+    let k = applies-above (r .number) rs n p (both-right (ltb m (r .number)) (risingFrom (r .number) rs) t) h in
+    omega arith
+
+-- a row that applies, where none below it does, is what refuses
+lowest-refuses : {A : Type 0} (m : ℕ) (rs : List Rule) (a : A) (n p : ℕ) → T (risingFrom m rs) → Applies rs n p → NoneBelow rs n → lowest rs a ≡ refused n p
+lowest-refuses m (r ∷ rs) a n p t (inl h) b = simp (h .0, h .1, h .2)
+lowest-refuses m (r ∷ rs) a n p t (inr h) b =
+    let up = both-right (ltb m (r .number)) (risingFrom (r .number) rs) t in
+    let k = applies-above (r .number) rs n p up h in
+    go k (lowest-refuses (r .number) rs a n p up h (b .1)) (r .applies) refl
+  where
+    go : r .number < n → lowest rs a ≡ refused n p → (s : Bool) → r .applies ≡ s → lowest (r ∷ rs) a ≡ refused n p
+    go k e true q = absurd (let z = b .0 q in let y : ⊥ = omega arith in y)
+    go k e false q = simp q e
+
+-- ---- "exactly when", of every table whose numbers rise
+
+-- `answer` is that of a call whose table is `rules` and whose result, where no row applies, is `a`
+pub record Exactly {A : Type 0} (rules : List Rule) (a : A) (answer : Answer A) : Type 0 where
+  -- the result is given exactly where no row applies
+  pub given-only : (b : A) → answer ≡ given b → Clear rules × (b ≡ a)
+  pub clear-only : Clear rules → answer ≡ given a
+  -- and a number, with a place, exactly where its row applies and none below it does
+  pub refused-only : (n p : ℕ) → answer ≡ refused n p → Applies rules n p × NoneBelow rules n
+  pub lowest-only : (n p : ℕ) → Applies rules n p → NoneBelow rules n → answer ≡ refused n p
+
+pub exactly : {A : Type 0} (rules : List Rule) (a : A) → T (rising rules) → Exactly rules a (lowest rules a)
+exactly rules a up =
+    record {
+      given-only = λ b e. (given-clear rules a b e, sym (given-same rules a b e));
+      clear-only = clear-given rules a;
+      refused-only = λ n p e. (refused-applies rules a n p e, lowest-from 0 rules a n p up e);
+      lowest-only = λ n p h b. lowest-refuses 0 rules a n p up h b;
+    }

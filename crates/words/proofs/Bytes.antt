@@ -1,13 +1,12 @@
 -- Words and their bytes: how many, which, and that each gives the other back.
 -- Assumes nothing.
-use Prim.Native.Nat.{ℕ, zero, suc, _+_, _-_, _*_, _/_, _%_, _<_, _≤_}
+use Prim.Native.Nat.{ℕ, zero, suc, _+_, _*_, _/_, _%_, _<_, _≤_}
 use mathlib.Core.Path.{_≡_, refl, sym, ap, ap₂, _∙_}
 use mathlib.Core.List.{List, [], _∷_, _++_, append-assoc}
 use native.Mathlib.Omega.{arith}
 use native.Mathlib.Nat.{le-of-lt}
-use native.Mathlib.Numerals.{add-one, add-two}
 use lib.ListN.{length, take, drop, set, getD, length-append}
-use lib.Seq.{drop-cons, take-suc, set-at, length-take-le, append-snoc, getD-drop}
+use lib.Seq.{drop-cons, take-suc, set-at, length-take-le, append-snoc}
 use Rattle.words.specs.Words.{digits, number, wordsIn, bytesOf}
 
 -- every number of a list is below n

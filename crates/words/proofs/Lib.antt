@@ -2,3 +2,4 @@
 pub mod Laws
 pub mod Bytes
 pub mod Numbers
+pub mod Writing

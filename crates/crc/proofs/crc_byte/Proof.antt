@@ -1,6 +1,6 @@
 -- `crc::crc_byte` meets its contract. The register is that after n bits. Assumes nothing.
-use Prim.Native.Nat.{ℕ, _≤_, _<_, _-_, _*_, _/_, _%_}
-use mathlib.Core.Path.{_≡_, refl, ap, subst, _∙_}
+use Prim.Native.Nat.{_≤_, _<_, _-_}
+use mathlib.Core.Path.{_≡_, refl, ap}
 use native.Mathlib.Omega.{arith}
 use native.Mathlib.Numerals.{add-one}
 use native.Mathlib.Nat.{lt-trans}
@@ -10,8 +10,6 @@ use Rattle.crc.specs.Crc.{crcBits, crcBit, crcByte}
 use Rattle.crc.proofs.Laws.{crcBit-fits}
 use Rattle.crc.proofs.crc_byte.Statement.{statement}
 use Rattle.crc.proofs.crc_byte.Tie as tie
-use Rattle.crc.proofs.crc_byte.Reads as reads
-use Rattle.crc.proofs.crc_byte.Lts as lts
 
 abbrev Inv-loop : tie.InvT-loop
 Inv-loop register byte r₀ n₀ r n = (n ≤ 8) × (r < 256) × (r ≡ crcBits n (bitXor register byte))

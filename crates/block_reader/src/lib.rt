@@ -1,0 +1,102 @@
+// The reader of blocks, for the far end: it is told the kind, gives the header, and hands back the body.
+ghost use mathlib.Core.Path.{_≡_};
+ghost use Prim.Native.Nat.{_≤_};
+ghost use lib.ListN.{length};
+ghost use Rattle.block_reader.specs.Reading.{bodyLength, placeAbove, headerIn, readOnPaper, blockAnswer, bodyOf};
+use blocks::Header;
+use configuration::Bounded;
+use configuration::lowest_in;
+use refusals::Refusal;
+use words::number32;
+use words::number48;
+use words::number64;
+use words::word_at;
+
+pub enum Kind {
+    Static,
+    Dynamic,
+    FtuList,
+    Failure,
+}
+
+// What reading finds: the header of a block that is right, or a refusal.
+pub enum BlockRead {
+    Read(Header),
+    Refused(Refusal),
+}
+
+impl Kind {
+    // The words of a body.
+    pub fn body_length(self) -> usize
+        ensures { λ r. ⌜ r ≡ bodyLength self ⌝ }
+    {
+        match self {
+            Kind::Static => 436,
+            Kind::Dynamic => 487,
+            Kind::FtuList => 249,
+            Kind::Failure => 29,
+        }
+    }
+}
+
+// The lowest place of a body that is above its bound, or the body's length where there is none.
+fn place_above(kind: Kind, body: &[u16]) -> usize
+    requires { ⌜ length (now body) ≡ bodyLength kind ⌝ }
+    ensures { λ r. ⌜ r ≡ placeAbove kind (now (body .entry)) ⌝ }
+{
+    match kind {
+        Kind::Static => lowest_in(Bounded::Configuration, body),
+        Kind::Dynamic => 3 + lowest_in(Bounded::Measurements, &body[3..]),
+        Kind::FtuList => body.len(),
+        Kind::Failure => body.len(),
+    }
+}
+
+// The header that words begin with.
+fn header_in(words: &[u16]) -> Header
+    ensures { λ r. ⌜ r ≡ headerIn (now (words .entry)) ⌝ }
+{
+    Header {
+        board_id: number64(
+            word_at(words, 0),
+            word_at(words, 1),
+            word_at(words, 2),
+            word_at(words, 3),
+        ),
+        firmware_id: word_at(words, 4),
+        trigger_counter: number32(word_at(words, 5), word_at(words, 6)),
+        timestamp: number48(word_at(words, 7), word_at(words, 8), word_at(words, 9)),
+    }
+}
+
+// Reads a block of a kind.
+pub fn read_block(kind: Kind, words: &[u16]) -> BlockRead
+    ensures { λ r. ⌜ readOnPaper r ≡ blockAnswer kind (now (words .entry)) ⌝ }
+{
+    let length = kind.body_length();
+    if words.len() != 11 + length {
+        return BlockRead::Refused(Refusal::WrongLength);
+    }
+    let place = place_above(kind, &words[11..]);
+    if place < length {
+        return BlockRead::Refused(Refusal::AboveBound(place));
+    }
+    let header = header_in(words);
+    if 144115188075855872 <= header.board_id {
+        return BlockRead::Refused(Refusal::WrongHeader);
+    }
+    if words[10] != 0 {
+        return BlockRead::Refused(Refusal::WrongHeader);
+    }
+    BlockRead::Read(header)
+}
+
+// The body of a block of a kind, as the part of the words after the header; no words where the block is refused.
+pub fn body_of(kind: Kind, words: &[u16]) -> &[u16]
+    ensures { λ r. ⌜ now r ≡ bodyOf kind (now (words .entry)) ⌝ }
+{
+    match read_block(kind, words) {
+        BlockRead::Read(_) => &words[11..],
+        BlockRead::Refused(_) => &words[..0],
+    }
+}

@@ -1,0 +1,24 @@
+-- `configuration::measurement_bound` meets its contract. Assumes nothing.
+use borrow.Author.Tests.{lt-ltb, le-ltb, eq-eqb, ne-eqb}
+use Rattle.configuration.specs.Configuration.{measurementBound}
+use Rattle.configuration.proofs.measurement_bound.Statement.{statement}
+use Rattle.configuration.proofs.measurement_bound.Tie as tie
+
+returns : tie.Need-returns
+unfolding measurementBound
+returns c = simp (lt-ltb _ _ (c .if1 .taken))
+
+returns-2 : tie.Need-returns-2
+unfolding measurementBound
+returns-2 c = simp (le-ltb _ _ (c .before .if1 .left), le-ltb _ _ (c .if2 .taken))
+
+returns-3 : tie.Need-returns-3
+unfolding measurementBound
+returns-3 c = simp (le-ltb _ _ (c .before .before .if1 .left), lt-ltb _ _ (c .before .if2 .left), eq-eqb _ _ (c .if3 .taken))
+
+returns-4 : tie.Need-returns-4
+unfolding measurementBound
+returns-4 c = simp (le-ltb _ _ (c .before .before .if1 .left), lt-ltb _ _ (c .before .if2 .left), ne-eqb _ _ (c .if3 .left))
+
+pub measurement-bound-spec : {M : Type 1} → statement M
+measurement-bound-spec = tie.close (tie.spec returns returns-2 returns-3 returns-4)

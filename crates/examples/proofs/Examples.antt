@@ -1,0 +1,13 @@
+-- 01's examples marked * hold of the definitions that the contracts cite.
+-- Assumes nothing.
+use mathlib.Core.Path.{refl}
+use Rattle.crc.specs.Crc.{crcByte}
+use Rattle.packets.specs.Packets.{plain}
+use Rattle.configuration.specs.Configuration.{boundOf}
+use Rattle.commands.specs.Commands.{listedAs}
+use Rattle.commands.specs.Reading.{spareSet, readRules, commandAnswer}
+use Rattle.examples.specs.Examples.{AllHold, examples}
+
+pub examples-hold : AllHold examples
+unfolding crcByte plain boundOf listedAs spareSet readRules commandAnswer
+examples-hold = (refl, (refl, (refl, (refl, (refl, (refl, (refl, (refl, (refl, (refl, (refl, (refl, (refl, tt)))))))))))))

@@ -1,0 +1,2 @@
+-- The theorem of the table of examples.
+pub mod Examples

@@ -1,0 +1,79 @@
+// Slow-control frames: 28 bytes that carry a board's settings, or ping it.
+ghost use mathlib.Core.Path.{_≡_};
+ghost use Rattle.frames.specs.Frames.{codeOf, wordsFor, fiveOf, frameWith, frameOf};
+use configuration::Settings;
+use configuration::address_of;
+use crc::crc8;
+use words::word_bytes;
+
+// What a frame is for.
+pub enum Code {
+    Dacs,
+    Enables,
+    Prescaling,
+    Ping,
+}
+
+impl Code {
+    // The number of a code.
+    pub fn number(self) -> u8
+        ensures { λ r. ⌜ r ≡ codeOf self ⌝ }
+    {
+        match self {
+            Code::Dacs => 1,
+            Code::Enables => 2,
+            Code::Prescaling => 3,
+            Code::Ping => 4,
+        }
+    }
+}
+
+// The words that a code carries, with zeros up to five.
+fn words_for(code: Code, s: Settings) -> [u16; 5]
+    ensures { λ r. ⌜ r ≡ fiveOf (wordsFor code s) ⌝ }
+{
+    let d = s.dacs;
+    let e = s.enables;
+    match code {
+        Code::Dacs => [d[0], d[1], d[2], d[3], d[4]],
+        Code::Enables => [e[0], e[1], e[2], e[3], 0],
+        Code::Prescaling => [s.prescaling, 0, 0, 0, 0],
+        Code::Ping => [0, 0, 0, 0, 0],
+    }
+}
+
+// The frame to an address, of a code's number, with five words of data.
+fn frame_with(address: u8, number: u8, w: [u16; 5]) -> [u8; 28]
+    ensures { λ r. ⌜ r ≡ frameWith address number w ⌝ }
+{
+    let a = word_bytes(w[0]);
+    let b = word_bytes(w[1]);
+    let c = word_bytes(w[2]);
+    let d = word_bytes(w[3]);
+    let e = word_bytes(w[4]);
+    let mut f = [0u8; 28];
+    f[0] = 0x40;
+    f[1] = address;
+    f[2] = 192;
+    f[4] = number;
+    f[5] = a[0];
+    f[6] = a[1];
+    f[7] = b[0];
+    f[8] = b[1];
+    f[9] = c[0];
+    f[10] = c[1];
+    f[11] = d[0];
+    f[12] = d[1];
+    f[13] = e[0];
+    f[14] = e[1];
+    let sum = crc8(&f[..27]);
+    f[27] = sum;
+    f
+}
+
+// The frame that a code sends to board b of crate c, with its settings.
+pub fn frame(c: u8, b: u8, code: Code, s: Settings) -> [u8; 28]
+    ensures { λ r. ⌜ r ≡ frameOf c b code s ⌝ }
+{
+    frame_with(address_of(c, b), code.number(), words_for(code, s))
+}

@@ -1,0 +1,90 @@
+-- 01, Trigger packets (000, chapter 2): seven bytes, the last of which is the CRC of the others.
+use Prim.Native.Nat.{ℕ, _+_, _*_, _/_, _%_}
+use mathlib.Core.Bool.{Bool, true, false, not, _&&_}
+use mathlib.Core.List.{List, [], _∷_, _++_}
+use lib.Dec.{leb, eqb}
+use lib.ListN.{length, take, getD}
+use Rattle.crc.specs.Crc.{crc}
+use Rattle.refusals.specs.Tables.{Answer, given, Rule, rule, lowest, onPaper}
+use Rattle.packets.specs.declared.Fields.{Fields}
+use Rattle.packets.specs.declared.Packet.{Packet}
+use Rattle.packets.specs.declared.PacketRead.{PacketRead}
+use Rattle.packets.specs.declared.PacketRead.the-variants.{Read, Refused}
+
+abbrev pub bitOf : Bool → ℕ
+bitOf true = 1
+bitOf false = 0
+
+-- "type 1 = 4n + 2 × external 2 + external 1"
+abbrev pub type1 : Fields → ℕ
+type1 f = 4 * f .n + 2 * bitOf (f .external2) + bitOf (f .external1)
+
+-- "type 2 = 128 × TIM source + 8 × pulser setting + 4 × pedestal + 2 × LP2 + LP1"
+abbrev pub type2 : Fields → ℕ
+type2 f = 128 * bitOf (f .«tim_source») + 8 * f .«pulser_setting» + 4 * bitOf (f .pedestal) + 2 * bitOf (f .lp2) + bitOf (f .lp1)
+
+-- bytes 0 to 5: "the number, low byte first", and the two types
+unfoldable pub plain : ℕ → Fields → List ℕ
+plain number f =
+    number % 256 ∷ number / 256 % 256 ∷ number / 256 / 256 % 256 ∷ number / 256 / 256 / 256 % 256
+    ∷ type1 f
+    ∷ type2 f
+    ∷ []
+
+-- the seven bytes: "the CRC of bytes 0 to 5" comes last
+abbrev pub packetBytes : ℕ → Fields → List ℕ
+packetBytes number f = plain number f ++ (crc (plain number f) ∷ [])
+
+-- "n is 0 to 40, the setting 0 to 15"
+abbrev pub inRange : Fields → Bool
+inRange f = leb (f .n) 40 && leb (f .«pulser_setting») 15
+
+-- a writer's own refusals: "15: n above 40 or setting above 15"
+abbrev pub writeRules : Fields → List Rule
+writeRules f = rule 15 (not (inRange f)) ∷ []
+
+-- whether a number is odd: its lowest bit
+abbrev pub isOdd : ℕ → Bool
+isOdd x = eqb (x % 2) 1
+
+-- the fields in the two type bytes
+abbrev pub fieldsIn : ℕ → ℕ → Fields
+fieldsIn t₁ t₂ =
+    record {
+      n = t₁ / 4;
+      external1 = isOdd t₁;
+      external2 = isOdd (t₁ / 2);
+      «tim_source» = isOdd (t₂ / 128);
+      «pulser_setting» = t₂ / 8 % 16;
+      pedestal = isOdd (t₂ / 4);
+      lp2 = isOdd (t₂ / 2);
+      lp1 = isOdd t₂;
+    }
+
+-- the number in its four bytes
+abbrev pub numberIn : ℕ → ℕ → ℕ → ℕ → ℕ
+numberIn b₀ b₁ b₂ b₃ = b₀ + 256 * (b₁ + 256 * (b₂ + 256 * b₃))
+
+-- the packet in seven bytes
+abbrev pub packetIn : List ℕ → Packet
+packetIn b =
+    record {
+      number = numberIn (getD b 0 0) (getD b 1 0) (getD b 2 0) (getD b 3 0);
+      fields = fieldsIn (getD b 4 0) (getD b 5 0);
+    }
+
+-- what a reader answers, as 01 has it
+abbrev pub readOnPaper : PacketRead → Answer Packet
+readOnPaper (Read p) = given p
+readOnPaper (Refused r) = onPaper r
+
+-- a reader's refusals
+unfoldable pub readRules : List ℕ → List Rule
+readRules b =
+    rule 13 (not (eqb (length b) 7))
+    ∷ rule 14 (not (eqb (crc (take 6 b)) (getD b 6 0)))
+    ∷ rule 15 (not (inRange (packetIn b .fields)))
+    ∷ []
+
+unfoldable pub packetAnswer : List ℕ → Answer Packet
+packetAnswer b = lowest (readRules b) (packetIn b)

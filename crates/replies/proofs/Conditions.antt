@@ -1,0 +1,138 @@
+-- A reply is good exactly if each of 01's conditions holds, said as plain facts; and its bytes 3 and 26 are free.
+-- Assumes nothing.
+use Prim.Native.Nat.{ℕ, zero, suc, _+_, _^_, _<_, _≤_}
+use mathlib.Core.Path.{_≡_, refl, sym, _∙_}
+use mathlib.Core.Bool.{Bool, true, false, _&&_}
+use mathlib.Core.List.{List, [], _∷_}
+use mathlib.Core.Logic.{⊎-elim}
+use native.Mathlib.Omega.{arith}
+use native.Mathlib.Nat.{eq-or-lt-of-le}
+use borrow.Author.Tests.{eqb-true, eqb-false, eq-eqb, ltb-true}
+use lib.Dec.{eqb, ltb}
+use lib.ListN.{length, getD, take, getD-replicate}
+use Rattle.crc.specs.Crc.{crc}
+use Rattle.replies.specs.Replies.{sameFrom, zeros, dnaIn, pingData, dataRight, conditions, allOf, goodReply}
+use Rattle.replies.proofs.Laws.{by-data, ping-zeros, others}
+
+-- ---- of truth values
+
+fst : (a b : Bool) → a && b ≡ true → a ≡ true
+fst true b e = refl
+fst false b e = e
+
+snd : (a b : Bool) → a && b ≡ true → b ≡ true
+snd true b e = e
+snd false b e = absurd (let z : _≡_ {A = ℕ} 0 1 = cc in let k : ⊥ = omega arith in k)
+
+each : (n : ℕ) (ts : List Bool) → allOf ts ≡ true → getD ts n true ≡ true
+each n [] e = refl
+each zero (t ∷ ts) e = fst t (allOf ts) e
+each (suc n) (t ∷ ts) e = each n ts (snd t (allOf ts) e)
+
+alike : (a b : Bool) → (a ≡ true → b ≡ true) → (b ≡ true → a ≡ true) → a ≡ b
+alike true b f g = sym (f refl)
+alike false true f g = g refl
+alike false false f g = refl
+
+-- ---- what a comparison says of each place
+
+-- a and b agree from the place i up to before j
+abbrev pub Agree : ℕ → ℕ → List ℕ → List ℕ → Type 0
+Agree i j a b = (k : ℕ) → i ≤ k → k < j → getD b k 0 ≡ getD a k 0
+
+same-agree : (n i : ℕ) (a b : List ℕ) → sameFrom n i a b ≡ true → Agree i (i + n) a b
+same-agree zero i a b e k l h = absurd (let z : ⊥ = omega arith in z)
+same-agree (suc n) i a b e k l h =
+    let t = eqb (getD b i 0) (getD a i 0) in
+    ⊎-elim
+    (λ q. rw (← q) (eqb-true _ _ (fst t _ e)))
+    (λ m. same-agree n (suc i) a b (snd t _ e) k m (omega arith))
+    (eq-or-lt-of-le l)
+
+agree-same : (n i : ℕ) (a b : List ℕ) → Agree i (i + n) a b → sameFrom n i a b ≡ true
+agree-same zero i a b f = refl
+agree-same (suc n) i a b f =
+    rw (eq-eqb _ _ (f i (omega arith) (omega arith))) (agree-same n (suc i) a b (λ k l h. f k (omega arith) (omega arith)))
+
+-- ---- the conditions
+
+-- the frame sent is a ping
+abbrev pub IsPing : List ℕ → Type 0
+IsPing sent = getD sent 4 0 ≡ 4
+
+pub record Good (sent r : List ℕ) : Type 0 where
+  pub bytes : length r ≡ 28
+  pub first : getD r 0 0 ≡ 0x40
+  pub destination : getD r 1 0 ≡ getD sent 2 0
+  pub sender : getD r 2 0 ≡ getD sent 1 0
+  pub code : getD r 4 0 ≡ getD sent 4 0
+  pub right-crc : crc (take 27 r) ≡ getD r 27 0
+  pub equal : (IsPing sent → ⊥) → Agree 5 26 sent r
+  pub below : IsPing sent → dnaIn r < 2 ^ 57
+  pub zeros-after : IsPing sent → (k : ℕ) → 13 ≤ k → k < 26 → getD r k 0 ≡ 0
+
+module _ (sent r : List ℕ) where
+  ping-data : IsPing sent → dataRight sent r ≡ pingData r
+  unfolding dataRight
+  ping-data p = simp (eq-eqb _ _ p)
+
+  pub good-only-if : goodReply sent r ≡ true → Good sent r
+  unfolding goodReply conditions
+  good-only-if g =
+      let at : (n : ℕ) → getD (conditions sent r) n true ≡ true = λ n. each n (conditions sent r) g in record {
+        bytes = eqb-true _ _ (at 0);
+        first = eqb-true _ _ (at 1);
+        destination = eqb-true _ _ (at 2);
+        sender = eqb-true _ _ (at 3);
+        code = eqb-true _ _ (at 4);
+        right-crc = eqb-true _ _ (at 5);
+        equal = λ n. same-agree 21 5 sent r (others sent r n ∙ at 6);
+        below = λ p. ltb-true _ _ (fst (ltb (dnaIn r) (2 ^ 57)) _ (sym (ping-data p) ∙ at 6));
+        zeros-after = λ p k l h. same-agree 13 13 zeros r (snd (ltb (dnaIn r) (2 ^ 57)) _ (sym (ping-data p) ∙ at 6)) k l h ∙ getD-replicate 28 k 0 0 (omega arith);
+      }
+
+  pub good-if : Good sent r → goodReply sent r ≡ true
+  good-if g =
+      sym (by-data sent r (g .bytes) (g .first) (g .destination) (g .sender) (g .code) (g .right-crc) true (go (eqb (getD sent 4 0) 4) refl))
+    where
+      go : (t : Bool) → eqb (getD sent 4 0) 4 ≡ t → true ≡ dataRight sent r
+      go true e =
+          let p = eqb-true _ _ e in
+          sym (agree-same 13 13 zeros r (λ k l h. g .zeros-after p k l h ∙ sym (getD-replicate 28 k 0 0 (omega arith)))) ∙ ping-zeros sent r p (g .below p)
+      go false e = let n = eqb-false _ _ e in sym (agree-same 21 5 sent r (g .equal n)) ∙ others sent r n
+
+-- ---- bytes 3 and 26
+
+-- r and s differ at most in the bytes 3 and 26 and in the CRC, which is right for each
+pub record Alike (r s : List ℕ) : Type 0 where
+  pub lengths : length r ≡ length s
+  pub elsewhere : (k : ℕ) → (k ≡ 3 → ⊥) → (k ≡ 26 → ⊥) → (k ≡ 27 → ⊥) → getD r k 0 ≡ getD s k 0
+  pub crc-r : crc (take 27 r) ≡ getD r 27 0
+  pub crc-s : crc (take 27 s) ≡ getD s 27 0
+
+turned : (r s : List ℕ) → Alike r s → Alike s r
+turned r s a = record {
+  lengths = sym (a .lengths);
+  elsewhere = λ k x y z. sym (a .elsewhere k x y z);
+  crc-r = a .crc-s;
+  crc-s = a .crc-r;
+}
+
+handed : (sent r s : List ℕ) → Alike r s → goodReply sent r ≡ true → goodReply sent s ≡ true
+handed sent r s a e =
+    let g = good-only-if sent r e in
+    let at : (k : ℕ) → k < 26 → (k ≡ 3 → ⊥) → getD s k 0 ≡ getD r k 0 = λ k h n. sym (a .elsewhere k n (omega arith) (omega arith)) in
+    good-if sent s (record {
+      bytes = sym (a .lengths) ∙ g .bytes;
+      first = at 0 (omega arith) (omega arith) ∙ g .first;
+      destination = at 1 (omega arith) (omega arith) ∙ g .destination;
+      sender = at 2 (omega arith) (omega arith) ∙ g .sender;
+      code = at 4 (omega arith) (omega arith) ∙ g .code;
+      right-crc = a .crc-s;
+      equal = λ n k l h. at k (omega arith) (omega arith) ∙ g .equal n k l h;
+      below = λ p. rw (at 5 (omega arith) (omega arith), at 6 (omega arith) (omega arith), at 7 (omega arith) (omega arith), at 8 (omega arith) (omega arith), at 9 (omega arith) (omega arith), at 10 (omega arith) (omega arith), at 11 (omega arith) (omega arith), at 12 (omega arith) (omega arith)) (g .below p);
+      zeros-after = λ p k l h. at k (omega arith) (omega arith) ∙ g .zeros-after p k l h;
+    })
+
+pub free-bytes : (sent r s : List ℕ) → Alike r s → goodReply sent r ≡ goodReply sent s
+free-bytes sent r s a = alike _ _ (handed sent r s a) (handed sent s r (turned r s a))

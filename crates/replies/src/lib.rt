@@ -1,0 +1,95 @@
+// Replies to slow-control frames: when one is good, and what a good ping reply carries.
+ghost use mathlib.Core.Path.{_≡_};
+ghost use Prim.Native.Nat.{_-_};
+ghost use lib.ListN.{getD};
+ghost use Rattle.replies.specs.Replies.{sameFrom, dnaIn, dataRight, goodReply, carriedIn};
+use crc::crc8;
+use words::number64;
+use words::word;
+
+// What a ping reply carries.
+pub struct PingReply {
+    pub dna: u64,
+    pub crc_errors: u8,
+}
+
+// The byte at a place, and 0 past the end.
+fn byte_at(bytes: &[u8], place: usize) -> u8
+    ensures { λ r. ⌜ r ≡ getD (now (bytes .entry)) place 0 ⌝ }
+{
+    if place < bytes.len() { bytes[place] } else { 0 }
+}
+
+// Whether the reply's data from a place on, to byte 25, are those of another frame.
+fn same_from(from: usize, other: [u8; 28], reply: &[u8]) -> bool
+    ensures { λ r. ⌜ r ≡ sameFrom (26 - from) from other (now (reply .entry)) ⌝ }
+{
+    let mut i = from;
+    while i < 26 {
+        if byte_at(reply, i) != other[i] {
+            return false;
+        }
+        i += 1;
+    }
+    true
+}
+
+// The DNA in a ping reply.
+fn dna_in(reply: &[u8]) -> u64
+    ensures { λ r. ⌜ r ≡ dnaIn (now (reply .entry)) ⌝ }
+{
+    number64(
+        word(byte_at(reply, 5), byte_at(reply, 6)),
+        word(byte_at(reply, 7), byte_at(reply, 8)),
+        word(byte_at(reply, 9), byte_at(reply, 10)),
+        word(byte_at(reply, 11), byte_at(reply, 12)),
+    )
+}
+
+// Whether the reply's data are right for the frame sent.
+fn data_right(sent: [u8; 28], reply: &[u8]) -> bool
+    ensures { λ r. ⌜ r ≡ dataRight sent (now (reply .entry)) ⌝ }
+{
+    if sent[4] == 4 {
+        if 144115188075855872 <= dna_in(reply) {
+            return false;
+        }
+        return same_from(13, [0u8; 28], reply);
+    }
+    same_from(5, sent, reply)
+}
+
+// Whether a reply is good for the frame sent.
+pub fn is_good(sent: [u8; 28], reply: &[u8]) -> bool
+    ensures { λ r. ⌜ r ≡ goodReply sent (now (reply .entry)) ⌝ }
+{
+    if reply.len() != 28 {
+        return false;
+    }
+    if reply[0] != 0x40 {
+        return false;
+    }
+    if reply[1] != sent[2] {
+        return false;
+    }
+    if reply[2] != sent[1] {
+        return false;
+    }
+    if reply[4] != sent[4] {
+        return false;
+    }
+    if crc8(&reply[..27]) != reply[27] {
+        return false;
+    }
+    data_right(sent, reply)
+}
+
+// What a ping reply carries; a byte that is not there counts as 0.
+pub fn carried(reply: &[u8]) -> PingReply
+    ensures { λ r. ⌜ r ≡ carriedIn (now (reply .entry)) ⌝ }
+{
+    PingReply {
+        dna: dna_in(reply),
+        crc_errors: byte_at(reply, 26),
+    }
+}
