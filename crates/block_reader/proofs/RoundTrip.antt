@@ -11,7 +11,7 @@ use Rattle.refusals.specs.declared.Written.the-variants.{Length}
 use Rattle.refusals.proofs.Tables.{Clear}
 use Rattle.refusals.proofs.Writing.{wrote-front}
 use Rattle.words.specs.Words.{wordsIn, bytesOf}
-use Rattle.words.proofs.Numbers.{number-digits}
+use Rattle.numbers.proofs.Numbers.{number-digits}
 use Rattle.words.proofs.Bytes.{Below, words-back}
 use Rattle.configuration.specs.Configuration.{boundOf, measurementBound, lowestAbove}
 use Rattle.configuration.proofs.Lent.{lent-length, lent-within}

@@ -6,7 +6,7 @@ use mathlib.Core.List.{List, [], _∷_}
 use lib.Dec.{ltb, leb, eqb}
 use lib.ListN.{length, getD, drop}
 use Rattle.refusals.specs.Tables.{Answer, given, refused, Rule, rule, ruleAt, lowest, onPaper}
-use Rattle.words.specs.Words.{number}
+use Rattle.numbers.specs.Numbers.{number}
 use Rattle.configuration.specs.Configuration.{boundOf, measurementBound, lowestAbove}
 use Rattle.blocks.specs.declared.Header.{Header}
 use Rattle.block_reader.specs.declared.Kind.{Kind}

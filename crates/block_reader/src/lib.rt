@@ -6,10 +6,10 @@ ghost use Rattle.block_reader.specs.Reading.{bodyLength, placeAbove, hea
 use blocks::Header;
 use configuration::Bounded;
 use configuration::lowest_in;
+use numbers::number32;
+use numbers::number48;
+use numbers::number64;
 use refusals::Refusal;
-use words::number32;
-use words::number48;
-use words::number64;
 use words::word_at;
 
 pub enum Kind {

@@ -35,11 +35,10 @@ module _ (rules : List Rule) (clear : Clear rules) (h : Header) (body out : List
   block-short = wrote-short rules (headerWords h ++ body) out clear (11 + m) length-block
 
   -- the header became the words xs, whose part after it the writer of the body left as ys
-  pub block-wrote : (front xs ys : List ℕ) → 11 + m ≤ length out → front ≡ headerWords h → xs ≡ copied front out
+  pub block-wrote : (xs ys : List ℕ) → 11 + m ≤ length out → xs ≡ copied (headerWords h) out
       → ys ≡ body ++ drop m (take (length xs - 11) (drop 11 xs))
       → Wrote rules (headerWords h ++ body) out (Length (11 + m)) (take 11 xs ++ (ys ++ drop (length xs - 11) (drop 11 xs)))
-  block-wrote front xs ys room ef ex ey =
-      wrote-both rules clear out front (headerWords h) body xs ys 11 m (length-header h) hm room ef ex ey
+  block-wrote xs ys room ex ey = wrote-both rules clear out (headerWords h) (headerWords h) body xs ys 11 m (length-header h) hm room refl ex ey
 
 -- ---- a block is written exactly where no row of the table, 19 after the measurements' own, applies
 

@@ -2,7 +2,7 @@
 use Prim.Native.Nat.{ℕ}
 use mathlib.Core.List.{List, [], _∷_, _++_}
 use Rattle.refusals.specs.Tables.{Rule}
-use Rattle.words.specs.Words.{digits}
+use Rattle.numbers.specs.Numbers.{digits}
 use Rattle.configuration.specs.Configuration.{measurementBound, lentRules}
 use Rattle.blocks.specs.declared.Header.{Header}
 

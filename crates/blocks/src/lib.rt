@@ -4,15 +4,16 @@ ghost use mathlib.Core.List.{[], _∷_, _++_};
 ghost use Prim.Native.Nat.{_≤_};
 ghost use lib.ListN.{length, drop};
 ghost use Rattle.refusals.specs.Writing.{Wrote};
+ghost use Rattle.words.specs.Words.{copied};
 ghost use Rattle.blocks.specs.Blocks.{headerWords, measurementRules, dynamicBody, failureBody};
 use configuration::Bounded;
 use configuration::lowest_in;
+use numbers::words32;
+use numbers::words48;
+use numbers::words64;
 use refusals::Refusal;
 use refusals::Written;
 use words::copy_words;
-use words::words32;
-use words::words48;
-use words::words64;
 
 // What a header says of the board that sends the block.
 pub struct Header {
@@ -25,7 +26,7 @@ pub struct Header {
 }
 
 // The eleven words of a header.
-pub fn header_words(h: Header) -> [u16; 11]
+fn header_words(h: Header) -> [u16; 11]
     ensures { λ r. ⌜ r ≡ headerWords h ⌝ }
 {
     let id = words64(h.board_id);
@@ -44,6 +45,14 @@ pub fn header_words(h: Header) -> [u16; 11]
         time[2],
         0,
     ]
+}
+
+// Lays the header down at the front of lent words, as far as they have room.
+pub fn put_header(h: Header, out: &mut [u16])
+    ensures { λ _. ⌜ now (out .exit) ≡ copied (headerWords h) (now (out .entry)) ⌝ }
+{
+    let header = header_words(h);
+    copy_words(&header, out);
 }
 
 // Puts the body of a static block to the front of the words after the header.
@@ -84,8 +93,7 @@ pub fn write_static(h: Header, block: [u16; 436], out: &mut [u16]) -> Written
     if out.len() < 447 {
         return Written::Refused(Refusal::OutputTooShort);
     }
-    let header = header_words(h);
-    copy_words(&header, out);
+    put_header(h, out);
     put_static(block, &mut out[11..]);
     Written::Length(447)
 }
@@ -104,8 +112,7 @@ pub fn write_dynamic(h: Header, on_time: u64, measurements: &[u16], out: &mut [u
     if out.len() < 498 {
         return Written::Refused(Refusal::OutputTooShort);
     }
-    let header = header_words(h);
-    copy_words(&header, out);
+    put_header(h, out);
     put_dynamic(on_time, measurements, &mut out[11..]);
     Written::Length(498)
 }
@@ -117,8 +124,7 @@ pub fn write_failure(h: Header, calls: u16, frame: [u8; 28], out: &mut [u16]) ->
     if out.len() < 40 {
         return Written::Refused(Refusal::OutputTooShort);
     }
-    let header = header_words(h);
-    copy_words(&header, out);
+    put_header(h, out);
     put_failure(calls, frame, &mut out[11..]);
     Written::Length(40)
 }

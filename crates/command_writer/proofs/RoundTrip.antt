@@ -13,17 +13,17 @@ use Rattle.refusals.specs.Writing.{Wrote}
 use Rattle.refusals.specs.declared.Written.the-variants.{Length}
 use Rattle.refusals.proofs.Tables.{Clear}
 use Rattle.refusals.proofs.Writing.{wrote-front, wrote-clear}
-use Rattle.words.proofs.Numbers.{number-digits}
+use Rattle.numbers.proofs.Numbers.{number-digits}
 use Rattle.configuration.specs.Configuration.{boundOf, lowestAbove}
 use Rattle.configuration.proofs.Lent.{lent-length, lent-within}
 use Rattle.commands.specs.Commands.{blockLength, noEvents, isWrite, listedAs}
-use Rattle.commands.specs.Reading.{namedIn, spareSet, Marked, taken, commandAnswer, usedOf, restOf, blockOf}
+use Rattle.command_reader.specs.Reading.{namedIn, spareSet, Marked, taken, commandAnswer, usedOf, restOf, blockOf}
 use Rattle.commands.specs.declared.BlockKind.the-variants.{Static, Dynamic}
 use Rattle.commands.specs.declared.RunLength.the-variants.{Endless, Counted}
 use Rattle.commands.specs.declared.Command.{Command}
 use Rattle.commands.specs.declared.Command.the-variants.{Read, Write, Start, Stop, Ping, CrateReset}
 use Rattle.commands.specs.declared.Listed.the-variants.{Found}
-use Rattle.commands.proofs.Reading.{read-write, read-other}
+use Rattle.command_reader.proofs.Reading.{read-write, read-other}
 use Rattle.command_writer.specs.Writing.{blockFor, commandWords, writeRules}
 
 -- X has 32 bits, as the command's type says

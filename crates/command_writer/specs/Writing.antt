@@ -3,7 +3,7 @@ use Prim.Native.Nat.{ℕ}
 use mathlib.Core.List.{List, [], _∷_, _++_}
 use lib.Dec.{ltb, eqb}
 use Rattle.refusals.specs.Tables.{Rule, rule}
-use Rattle.words.specs.Words.{digits}
+use Rattle.numbers.specs.Numbers.{digits}
 use Rattle.configuration.specs.Configuration.{boundOf, lentRules}
 use Rattle.commands.specs.Commands.{idOf, parameterOf}
 use Rattle.commands.specs.declared.RunLength.the-variants.{Endless, Counted}

@@ -9,10 +9,10 @@ use commands::BlockKind;
 use commands::Command;
 use commands::RunLength;
 use configuration::lowest_above;
+use numbers::words32;
 use refusals::Refusal;
 use refusals::Written;
 use words::copy_words;
-use words::words32;
 
 // Lays down the five words of a command that has no block.
 fn put_five(id: u16, parameter: u16, out: &mut [u16]) -> Written

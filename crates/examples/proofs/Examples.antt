@@ -5,7 +5,7 @@ use Rattle.crc.specs.Crc.{crcByte}
 use Rattle.packets.specs.Packets.{plain}
 use Rattle.configuration.specs.Configuration.{boundOf}
 use Rattle.commands.specs.Commands.{listedAs}
-use Rattle.commands.specs.Reading.{spareSet, readRules, commandAnswer}
+use Rattle.command_reader.specs.Reading.{spareSet, readRules, commandAnswer}
 use Rattle.examples.specs.Examples.{AllHold, examples}
 
 pub examples-hold : AllHold examples

@@ -8,7 +8,7 @@ use Rattle.refusals.specs.Tables.{Answer, given, refused}
 use Rattle.packets.specs.Packets.{packetBytes}
 use Rattle.packets.specs.declared.Fields.{Fields}
 use Rattle.configuration.specs.Configuration.{beginOf}
-use Rattle.commands.specs.Reading.{Taken, taken, commandAnswer}
+use Rattle.command_reader.specs.Reading.{Taken, taken, commandAnswer}
 use Rattle.commands.specs.declared.RunLength.the-variants.{Counted}
 use Rattle.commands.specs.declared.Command.the-variants.{Write, Start, CrateReset}
 use Rattle.command_writer.specs.Writing.{fiveWords}

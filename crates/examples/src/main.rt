@@ -1,8 +1,8 @@
 // 01's examples of the formats, worked by the code: each line names the example as 01 does, and gives what the code answered.
+use command_reader::CommandRead;
+use command_reader::read_command;
 use commands::Command;
-use commands::CommandRead;
 use commands::RunLength;
-use commands::read_command;
 use configuration::begin_of;
 use crc::crc8;
 use libc::STDOUT_FILENO;

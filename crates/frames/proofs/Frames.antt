@@ -12,7 +12,7 @@ use Rattle.configuration.specs.declared.Settings.{Settings}
 use Rattle.frames.specs.Frames.{padded, unchecked, frameWith, fiveOf, wordsFor}
 use Rattle.frames.specs.declared.Code.{Code}
 use Rattle.frames.specs.declared.Code.the-variants.{Dacs, Enables, Prescaling, Ping}
-use Rattle.frames.proofs.Listed.{listed}
+use Rattle.numbers.proofs.Listed.{listed}
 
 module _ (address number : ℕ) where
   -- zeros up to five words change nothing

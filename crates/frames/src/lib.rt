@@ -4,7 +4,7 @@ ghost use Rattle.frames.specs.Frames.{codeOf, wordsFor, fiveOf, frameWit
 use configuration::Settings;
 use configuration::address_of;
 use crc::crc8;
-use words::word_bytes;
+use numbers::word_bytes;
 
 // What a frame is for.
 pub enum Code {

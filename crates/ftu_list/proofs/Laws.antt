@@ -10,7 +10,7 @@ use native.Mathlib.Numerals.{add-one}
 use lib.Dec.{eqb}
 use lib.ListN.{length, take, drop, getD, replicate, length-append, length-map}
 use lib.Seq.{take-suc, drop-cons, length-take-le}
-use Rattle.words.specs.Words.{digits}
+use Rattle.numbers.specs.Numbers.{digits}
 use Rattle.configuration.specs.Configuration.{addressOf}
 use Rattle.ftu_list.specs.List.{entryWords, entriesFrom, answered, listHead, listBody}
 use Rattle.ftu_list.specs.declared.Entry.{Entry}

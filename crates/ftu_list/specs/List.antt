@@ -4,7 +4,7 @@ use mathlib.Core.Bool.{cond}
 use mathlib.Core.List.{List, [], _∷_, _++_}
 use lib.Dec.{eqb}
 use lib.ListN.{take, drop, getD, replicate}
-use Rattle.words.specs.Words.{digits}
+use Rattle.numbers.specs.Numbers.{digits}
 use Rattle.configuration.specs.Configuration.{addressOf}
 use Rattle.ftu_list.specs.declared.Entry.{Entry}
 use Rattle.ftu_list.specs.declared.FtuList.{FtuList}

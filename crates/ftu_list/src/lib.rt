@@ -7,12 +7,12 @@ ghost use Rattle.refusals.specs.Writing.{Wrote};
 ghost use Rattle.blocks.specs.Blocks.{headerWords};
 ghost use Rattle.ftu_list.specs.List.{entryWords, entriesFrom, answered, listHead, listBody};
 use blocks::Header;
-use blocks::header_words;
+use blocks::put_header;
 use configuration::address_of;
+use numbers::words64;
 use refusals::Refusal;
 use refusals::Written;
 use words::copy_words;
-use words::words64;
 
 // What a ping found of a board. One that did not answer has no calls.
 pub struct Entry {
@@ -118,8 +118,7 @@ pub fn write_list(h: Header, list: FtuList, out: &mut [u16]) -> Written
     if out.len() < 260 {
         return Written::Refused(Refusal::OutputTooShort);
     }
-    let header = header_words(h);
-    copy_words(&header, out);
+    put_header(h, out);
     put_list(list, &mut out[11..]);
     Written::Length(260)
 }

@@ -1,17 +1,17 @@
 -- What is written is read back, and what is read, written again, gives the same bytes: no two byte strings read as the same packet.
 -- Assumes nothing.
-use Prim.Native.Nat.{ℕ, zero, suc, _+_, _*_, _/_, _%_, _^_, _<_, _≤_}
+use Prim.Native.Nat.{ℕ, _+_, _*_, _/_, _%_, _^_, _<_, _≤_}
 use mathlib.Core.Path.{_≡_, refl, sym, ap, ap₂, _∙_, subst}
 use mathlib.Core.Bool.{Bool, true, false, not}
 use mathlib.Core.List.{List, [], _∷_, _++_}
 use native.Mathlib.Nat.{div-div-eq-div-mul}
 use native.Mathlib.Omega.{arith}
 use lib.Dec.{eqb}
-use lib.ListN.{length, take, drop, getD, drop-of-length-le}
-use lib.Seq.{drop-cons}
+use lib.ListN.{take, getD}
 use borrow.Author.Tests.{le-leb, eq-eqb, eqb-true, eqb-false, not-false}
 use Rattle.crc.specs.Crc.{crc}
 use Rattle.refusals.specs.Tables.{given}
+use Rattle.numbers.proofs.Listed.{spread, listed}
 use Rattle.packets.specs.Packets.{bitOf, type1, type2, plain, packetBytes, inRange, isOdd, numberIn, fieldsIn, packetIn, readRules, packetAnswer}
 use Rattle.packets.specs.declared.Fields.{Fields}
 use Rattle.packets.specs.declared.Packet.{Packet}
@@ -81,15 +81,6 @@ type2-bits t h =
     let p₇ : t / 128 % 2 ≡ t / 128 = omega arith in
     omega arith
 
--- the n elements of l from the place i on
-abbrev spread : ℕ → ℕ → List ℕ → List ℕ
-spread i zero l = []
-spread i (suc n) l = getD l i 0 ∷ spread (suc i) n l
-
-spread-is : (l : List ℕ) (n i : ℕ) → i + n ≡ length l → spread i n l ≡ drop i l
-spread-is l zero i h = sym (drop-of-length-le l {i = i} (omega arith))
-spread-is l (suc n) i h = ap (λ (r : List ℕ). getD l i 0 ∷ r) (spread-is l n (suc i) (omega arith)) ∙ sym (drop-cons l i 0 (omega arith))
-
 -- the packet in seven bytes with a right CRC has those bytes
 abbrev Same : List ℕ → Type 0
 Same b = packetBytes (packetIn b .number) (packetIn b .fields) ≡ b
@@ -115,7 +106,7 @@ pub written-read : (b : List ℕ) (p : Packet) → ((i : ℕ) → i < 7 → getD
 unfolding readRules
 written-read b p bytes e =
     let k = read-exactly b .given-only p e in
-    let l : spread 0 7 b ≡ b = spread-is b 7 0 (sym (eqb-true _ _ (not-false _ (k .0 .0)))) in
+    let l : spread 0 7 b ≡ b = listed b 7 (eqb-true _ _ (not-false _ (k .0 .0))) in
     let sum : crc (take 6 b) ≡ getD b 6 0 = eqb-true _ _ (not-false _ (k .0 .1 .0)) in
     let sum′ : crc (spread 0 6 b) ≡ getD b 6 0 = ap (λ (m : List ℕ). crc (take 6 m)) l ∙ sum in
     let q : Same b = subst (λ (m : List ℕ). Same m) l

@@ -4,7 +4,7 @@ use mathlib.Core.Bool.{Bool, true, cond, _&&_}
 use mathlib.Core.List.{List, [], _∷_}
 use lib.Dec.{ltb, eqb}
 use lib.ListN.{length, getD, take, replicate}
-use Rattle.words.specs.Words.{number}
+use Rattle.numbers.specs.Numbers.{number}
 use Rattle.crc.specs.Crc.{crc}
 use Rattle.replies.specs.declared.PingReply.{PingReply}
 

@@ -4,8 +4,8 @@ ghost use Prim.Native.Nat.{_-_};
 ghost use lib.ListN.{getD};
 ghost use Rattle.replies.specs.Replies.{sameFrom, dnaIn, dataRight, goodReply, carriedIn};
 use crc::crc8;
-use words::number64;
-use words::word;
+use numbers::number64;
+use numbers::word;
 
 // What a ping reply carries.
 pub struct PingReply {

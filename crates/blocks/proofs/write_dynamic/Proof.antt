@@ -28,14 +28,8 @@ returns-3 c =
     let n : length (now (a .measurements)) ≡ 484 = omega arith in
     block-short _ (lent-clear measurementBound 484 _ n _ (c .before .before .lowest-in .ensures) (omega arith)) (a .h) _ _ 487 (ap (λ (k : ℕ). suc (suc (suc k))) n) (omega arith)
 
-header-words-requires : tie.Need-header-words-requires
-header-words-requires c κs = search needs
-
-slice-aggregate-copy-words : tie.Need-slice-aggregate-copy-words
-slice-aggregate-copy-words c = search needs
-
-copy-words-requires : tie.Need-copy-words-requires
-copy-words-requires c κs = search needs
+put-header-requires : tie.Need-put-header-requires
+put-header-requires c κs = search needs
 
 sub-put-dynamic : tie.Need-sub-put-dynamic
 sub-put-dynamic c = search needs
@@ -54,10 +48,10 @@ same-length c = search needs
 
 returns-4 : tie.Need-returns-4
 returns-4 c =
-    let a = c .before .before .before .before .before .before .before .before .before .before .before .before .before .before .before .before .args in
+    let a = c .before .before .before .before .before .before .before .before .before .before .before .before .before .before .args in
     let n : length (now (a .measurements)) ≡ 484 = omega arith in
-    block-wrote _ (lent-clear measurementBound 484 _ n _ (c .before .before .before .before .before .before .before .before .before .before .before .before .lowest-in .ensures) (omega arith)) (a .h) _ (now (a .out)) 487 (ap (λ (k : ℕ). suc (suc (suc k))) n) _ _ _
-    (omega arith) (c .before .before .before .before .before .before .before .before .before .header-words .ensures) (c .before .before .before .before .before .before .copy-words .ensures) (c .before .before .put-dynamic .ensures)
+    block-wrote _ (lent-clear measurementBound 484 _ n _ (c .before .before .before .before .before .before .before .before .before .before .lowest-in .ensures) (omega arith)) (a .h) _ (now (a .out)) 487 (ap (λ (k : ℕ). suc (suc (suc k))) n) _ _
+    (omega arith) (c .before .before .before .before .before .before .put-header .ensures) (c .before .before .put-dynamic .ensures)
 
 pub write-dynamic-spec : {M : Type 1} → statement M
 write-dynamic-spec =
@@ -67,9 +61,7 @@ write-dynamic-spec =
     lowest-in-requires
     returns-2
     returns-3
-    header-words-requires
-    slice-aggregate-copy-words
-    copy-words-requires
+    put-header-requires
     sub-put-dynamic
     part-put-dynamic-start
     part-put-dynamic-end

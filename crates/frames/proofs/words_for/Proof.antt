@@ -2,7 +2,7 @@
 use mathlib.Core.Path.{_≡_, ap}
 use lib.ListN.{length}
 use Rattle.frames.specs.Frames.{fiveOf}
-use Rattle.frames.proofs.Listed.{listed}
+use Rattle.numbers.proofs.Listed.{listed}
 use borrow.Author.Needs.{needs}
 use Rattle.frames.proofs.words_for.Statement.{statement}
 use Rattle.frames.proofs.words_for.Tie as tie

@@ -17,14 +17,8 @@ returns c =
     let n : length (a .list .entries) ≡ 40 = search length-mapped depth 8 in
     block-short [] tt (a .h) (listBody (a .list)) _ 249 (length-body (a .list) n) (omega arith)
 
-header-words-requires : tie.Need-header-words-requires
-header-words-requires c κs = search needs
-
-slice-aggregate-copy-words : tie.Need-slice-aggregate-copy-words
-slice-aggregate-copy-words c = search needs
-
-copy-words-requires : tie.Need-copy-words-requires
-copy-words-requires c κs = search needs
+put-header-requires : tie.Need-put-header-requires
+put-header-requires c κs = search needs
 
 sub-put-list : tie.Need-sub-put-list
 sub-put-list c = search needs
@@ -43,19 +37,17 @@ same-length c = search needs
 
 returns-2 : tie.Need-returns-2
 returns-2 c =
-    let a = c .before .before .before .before .before .before .before .before .before .before .before .before .args in
+    let a = c .before .before .before .before .before .before .before .before .before .before .args in
     let n : length (a .list .entries) ≡ 40 = search length-mapped depth 8 in
-    block-wrote [] tt (a .h) (listBody (a .list)) (now (a .out)) 249 (length-body (a .list) n) _ _ _ (omega arith)
-    (c .before .before .before .before .before .before .before .before .before .header-words .ensures) (c .before .before .before .before .before .before .copy-words .ensures) (c .before .before .put-list .ensures)
+    block-wrote [] tt (a .h) (listBody (a .list)) (now (a .out)) 249 (length-body (a .list) n) _ _ (omega arith)
+    (c .before .before .before .before .before .before .put-header .ensures) (c .before .before .put-list .ensures)
 
 pub write-list-spec : {M : Type 1} → statement M
 write-list-spec =
     tie.close
     (tie.spec
     returns
-    header-words-requires
-    slice-aggregate-copy-words
-    copy-words-requires
+    put-header-requires
     sub-put-list
     part-put-list-start
     part-put-list-end
