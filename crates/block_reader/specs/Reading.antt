@@ -7,7 +7,7 @@ use lib.Dec.{ltb, leb, eqb}
 use lib.ListN.{length, getD, drop}
 use Rattle.refusals.specs.Tables.{Answer, given, refused, Rule, rule, ruleAt, lowest, onPaper}
 use Rattle.numbers.specs.Numbers.{number}
-use Rattle.configuration.specs.Configuration.{boundOf, measurementBound, lowestAbove}
+use Rattle.bounds.specs.Bounds.{boundOf, measurementBound, lowestAbove}
 use Rattle.blocks.specs.declared.Header.{Header}
 use Rattle.block_reader.specs.declared.Kind.{Kind}
 use Rattle.block_reader.specs.declared.Kind.the-variants.{Static, Dynamic, FtuList, Failure}

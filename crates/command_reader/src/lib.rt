@@ -2,10 +2,10 @@
 ghost use mathlib.Core.Path.{_≡_};
 ghost use Rattle.commands.specs.declared.Listed.the-variants.{Found};
 ghost use Rattle.command_reader.specs.Reading.{spareSet, countIn, Marked, readOnPaper, commandAnswer, restOf, blockOf};
+use bounds::lowest_above;
 use commands::Command;
 use commands::Listed;
 use commands::listed_as;
-use configuration::lowest_above;
 use numbers::number32;
 use refusals::Refusal;
 use words::word_at;

@@ -10,7 +10,7 @@ use Rattle.refusals.specs.Writing.{Wrote, writingRules, writing}
 use Rattle.refusals.specs.declared.Written.{Written}
 use Rattle.refusals.proofs.Tables.{Exactly}
 use Rattle.refusals.proofs.Writing.{writing-exactly}
-use Rattle.configuration.specs.Configuration.{lentRules}
+use Rattle.bounds.specs.Bounds.{lentRules}
 use Rattle.commands.specs.declared.RunLength.the-variants.{Endless, Counted}
 use Rattle.commands.specs.declared.Command.{Command}
 use Rattle.commands.specs.declared.Command.the-variants.{Read, Write, Start, Stop, Ping, CrateReset}

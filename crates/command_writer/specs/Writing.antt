@@ -4,7 +4,7 @@ use mathlib.Core.List.{List, [], _∷_, _++_}
 use lib.Dec.{ltb, eqb}
 use Rattle.refusals.specs.Tables.{Rule, rule}
 use Rattle.numbers.specs.Numbers.{digits}
-use Rattle.configuration.specs.Configuration.{boundOf, lentRules}
+use Rattle.bounds.specs.Bounds.{boundOf, lentRules}
 use Rattle.commands.specs.Commands.{idOf, parameterOf}
 use Rattle.commands.specs.declared.RunLength.the-variants.{Endless, Counted}
 use Rattle.commands.specs.declared.Command.{Command}

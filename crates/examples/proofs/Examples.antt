@@ -3,7 +3,7 @@
 use mathlib.Core.Path.{refl}
 use Rattle.crc.specs.Crc.{crcByte}
 use Rattle.packets.specs.Packets.{plain}
-use Rattle.configuration.specs.Configuration.{boundOf}
+use Rattle.bounds.specs.Bounds.{boundOf}
 use Rattle.commands.specs.Commands.{listedAs}
 use Rattle.command_reader.specs.Reading.{spareSet, readRules, commandAnswer}
 use Rattle.examples.specs.Examples.{AllHold, examples}

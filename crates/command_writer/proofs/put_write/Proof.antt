@@ -8,8 +8,8 @@ use Rattle.command_writer.specs.Writing.{fiveWords}
 use Rattle.refusals.specs.declared.Refusal.the-variants.{WrongLength, AboveBound}
 use Rattle.refusals.proofs.Writing.{wrote-short, wrote-refused}
 use Rattle.words.proofs.Writing.{wrote-both}
-use Rattle.configuration.specs.Configuration.{boundOf}
-use Rattle.configuration.proofs.Lent.{lent-6, lent-8, lent-clear}
+use Rattle.bounds.specs.Bounds.{boundOf}
+use Rattle.bounds.proofs.Lent.{lent-6, lent-8, lent-clear}
 use borrow.Author.Needs.{needs}
 use native.Mathlib.Omega.{arith}
 use Rattle.command_writer.proofs.put_write.Statement.{statement}

@@ -1,6 +1,6 @@
 -- Reading what was written gives the command back, its block, and the words after it.
 -- Assumes nothing.
-use Prim.Native.Nat.{ℕ, zero, suc, _+_, _-_, _^_, _<_, _≤_}
+use Prim.Native.Nat.{ℕ, zero, suc, _+_, _-_, _≤_}
 use mathlib.Core.Path.{_≡_, refl, sym, ap, _∙_}
 use mathlib.Core.Bool.{false}
 use mathlib.Core.List.{List, [], _++_, append-nil}
@@ -14,8 +14,8 @@ use Rattle.refusals.specs.declared.Written.the-variants.{Length}
 use Rattle.refusals.proofs.Tables.{Clear}
 use Rattle.refusals.proofs.Writing.{wrote-front, wrote-clear}
 use Rattle.numbers.proofs.Numbers.{number-digits}
-use Rattle.configuration.specs.Configuration.{boundOf, lowestAbove}
-use Rattle.configuration.proofs.Lent.{lent-length, lent-within}
+use Rattle.bounds.specs.Bounds.{boundOf, lowestAbove}
+use Rattle.bounds.proofs.Lent.{lent-length, lent-within}
 use Rattle.commands.specs.Commands.{blockLength, noEvents, isWrite, listedAs}
 use Rattle.command_reader.specs.Reading.{namedIn, spareSet, Marked, taken, commandAnswer, usedOf, restOf, blockOf}
 use Rattle.commands.specs.declared.BlockKind.the-variants.{Static, Dynamic}
@@ -24,17 +24,8 @@ use Rattle.commands.specs.declared.Command.{Command}
 use Rattle.commands.specs.declared.Command.the-variants.{Read, Write, Start, Stop, Ping, CrateReset}
 use Rattle.commands.specs.declared.Listed.the-variants.{Found}
 use Rattle.command_reader.proofs.Reading.{read-write, read-other}
+use Rattle.round_trips.specs.Commands.{CountFits, ReadsBack}
 use Rattle.command_writer.specs.Writing.{blockFor, commandWords, writeRules}
-
--- X has 32 bits, as the command's type says
-abbrev pub CountFits : Command → Type 0
-CountFits (Read kind) = Unit
-CountFits Write = Unit
-CountFits (Start Endless) = Unit
-CountFits (Start (Counted x)) = x < 2 ^ 32
-CountFits Stop = Unit
-CountFits Ping = Unit
-CountFits (CrateReset n) = Unit
 
 module _ (b rest : List ℕ) where
   -- the words of c, with others after them
@@ -106,12 +97,7 @@ module _ (b rest : List ℕ) where
     pub rest-back : restOf (written c) ≡ rest
     rest-back = rw used-back (drop-at (commandWords c b) rest (5 + blockLength c) (let e = block-long c k in omega arith))
 
--- What the writer wrote to the lent output, as it says how much: the command, its block, and nothing after it
-pub record ReadsBack (w : List ℕ) (c : Command) (b : List ℕ) : Type 0 where
-  pub command : commandAnswer w ≡ given (taken c (length w))
-  pub block : blockOf w ≡ blockFor c b
-  pub rest : restOf w ≡ []
-
+-- what the writer wrote to the lent output, as it says how much
 pub written-back : (c : Command) (b out after : List ℕ) (n : ℕ) → CountFits c → Wrote (writeRules c b) (commandWords c b) out (Length n) after → ReadsBack (take n after) c b
 written-back c b out after n f w =
     let k = wrote-clear (writeRules c b) (commandWords c b) out n after w in

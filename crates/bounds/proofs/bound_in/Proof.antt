@@ -1,7 +1,7 @@
--- `configuration::bound_in` meets its contract. Assumes nothing.
+-- `bounds::bound_in` meets its contract. Assumes nothing.
 use borrow.Author.Needs.{needs}
-use Rattle.configuration.proofs.bound_in.Statement.{statement}
-use Rattle.configuration.proofs.bound_in.Tie as tie
+use Rattle.bounds.proofs.bound_in.Statement.{statement}
+use Rattle.bounds.proofs.bound_in.Tie as tie
 
 enum-told : tie.Need-enum-told
 enum-told c = search needs

@@ -6,7 +6,7 @@ use mathlib.Core.List.{List}
 use lib.ListN.{length, drop, getD, drop-of-length-le}
 use lib.Seq.{drop-cons}
 use borrow.Author.Tests.{lt-ltb, le-ltb}
-use Rattle.configuration.specs.Configuration.{lowestAbove}
+use Rattle.bounds.specs.Bounds.{lowestAbove}
 
 module _ (bound : ℕ → ℕ) (s : List ℕ) (i : ℕ) where
   pub lowest-here : i < length s → bound i < getD s i 0 → lowestAbove bound i (drop i s) ≡ i

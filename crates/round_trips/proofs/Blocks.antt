@@ -1,6 +1,6 @@
 -- Reading a block that was written gives its header and its body back, for each of the four kinds; and so do its bytes on the wire.
 -- Assumes nothing.
-use Prim.Native.Nat.{ℕ, suc, _+_, _^_, _<_, _≤_}
+use Prim.Native.Nat.{ℕ, suc, _+_, _≤_}
 use mathlib.Core.Path.{_≡_, refl, sym, ap, _∙_}
 use mathlib.Core.List.{List, [], _∷_, _++_}
 use native.Mathlib.Omega.{arith}
@@ -13,29 +13,18 @@ use Rattle.refusals.proofs.Writing.{wrote-front}
 use Rattle.words.specs.Words.{wordsIn, bytesOf}
 use Rattle.numbers.proofs.Numbers.{number-digits}
 use Rattle.words.proofs.Bytes.{Below, words-back}
-use Rattle.configuration.specs.Configuration.{boundOf, measurementBound, lowestAbove}
-use Rattle.configuration.proofs.Lent.{lent-length, lent-within}
+use Rattle.bounds.specs.Bounds.{boundOf, measurementBound, lowestAbove}
+use Rattle.bounds.proofs.Lent.{lent-length, lent-within}
 use Rattle.blocks.specs.Blocks.{headerWords, dynamicBody, measurementRules, failureBody}
 use Rattle.blocks.specs.declared.Header.{Header}
 use Rattle.ftu_list.specs.List.{listBody}
 use Rattle.ftu_list.specs.declared.FtuList.{FtuList}
 use Rattle.ftu_list.proofs.Laws.{length-body}
-use Rattle.block_reader.specs.Reading.{bodyLength, placeAbove, headerIn, blockAnswer, bodyWhere, bodyOf}
+use Rattle.round_trips.specs.Blocks.{Sound, ReadsBack}
+use Rattle.block_reader.specs.Reading.{bodyLength, placeAbove, headerIn, blockAnswer, bodyWhere}
 use Rattle.block_reader.specs.declared.Kind.{Kind}
 use Rattle.block_reader.specs.declared.Kind.the-variants.{Static, Dynamic, FtuList as List′, Failure}
 use Rattle.block_reader.proofs.Laws.{read-header}
-
--- what every header of a board has
-pub record Sound (h : Header) : Type 0 where
-  pub id : h .«board_id» < 2 ^ 57
-  pub firmware : h .«firmware_id» < 65536
-  pub counter : h .«trigger_counter» < 2 ^ 32
-  pub time : h .timestamp < 2 ^ 48
-
--- the block reads as h, and hands back b
-pub record ReadsBack (kind : Kind) (w : List ℕ) (h : Header) (b : List ℕ) : Type 0 where
-  pub header : blockAnswer kind w ≡ given h
-  pub body : bodyOf kind w ≡ b
 
 module _ (h : Header) (s : Sound h) where
   header-back : (b : List ℕ) → h ≡ headerIn (headerWords h ++ b)

@@ -1,14 +1,14 @@
--- `configuration::lowest_in` meets its contract. The lowest place from i on is that of all the words. Assumes nothing.
+-- `bounds::lowest_in` meets its contract. The lowest place from i on is that of all the words. Assumes nothing.
 use borrow.Author.Needs.{needs}
 use Prim.Native.Nat.{_≤_, _-_}
 use mathlib.Core.Path.{_≡_, refl, sym, _∙_}
 use native.Mathlib.Numerals.{add-one}
 use lib.ListN.{length, drop}
 use denote.Ref.{now}
-use Rattle.configuration.specs.Configuration.{boundIn, lowestAbove}
-use Rattle.configuration.proofs.Laws.{lowest-here, lowest-on, lowest-end}
-use Rattle.configuration.proofs.lowest_in.Statement.{statement}
-use Rattle.configuration.proofs.lowest_in.Tie as tie
+use Rattle.bounds.specs.Bounds.{boundIn, lowestAbove}
+use Rattle.bounds.proofs.Laws.{lowest-here, lowest-on, lowest-end}
+use Rattle.bounds.proofs.lowest_in.Statement.{statement}
+use Rattle.bounds.proofs.lowest_in.Tie as tie
 
 abbrev Inv-loop : tie.InvT-loop
 Inv-loop what words i₀ i = (i ≤ length words) × (lowestAbove (boundIn what) i (drop i words) ≡ lowestAbove (boundIn what) 0 words)
