@@ -26,7 +26,8 @@ pub fn address_of(c: u8, b: u8) -> u8
     ((16 * (c as u16) + (b as u16)) % 256) as u8
 }
 
-// The ten words of board b of crate c, as a part of the block; fewer where the block ends before.
+// The ten words of board b of crate c, as a part of the block; fewer where the block ends before. (Where just ten are left, or none, two of
+// the ways out give the same part.)
 pub fn board_words(block: &[u16], c: u8, b: u8) -> &[u16]
     ensures { λ r. ⌜ now r ≡ boardWords (now (block .entry)) c b ⌝ }
 {
