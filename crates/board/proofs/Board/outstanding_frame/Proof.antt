@@ -1,0 +1,48 @@
+-- `board::Board::outstanding_frame` meets its contract. Assumes nothing.
+use Rattle.board.proofs.Serving.{fetched, fetch-refused}
+use Rattle.four_crates.specs.FourCrates.{outstandingOnPaper}
+use mathlib.Core.Path.{sym, ap, _∙_}
+use borrow.Author.Needs.{needs}
+use Rattle.board.proofs.Board.outstanding_frame.Statement.{statement}
+use Rattle.board.proofs.Board.outstanding_frame.Tie as tie
+
+outstanding-on-requires : tie.Need-outstanding-on-requires
+outstanding-on-requires c κs = search needs
+
+enum-known-board : tie.Need-enum-known-board
+enum-known-board c = search needs
+
+slice-aggregate-step-frame : tie.Need-slice-aggregate-step-frame
+slice-aggregate-step-frame c = search needs
+
+step-frame-requires : tie.Need-step-frame-requires
+step-frame-requires c κs = search needs
+
+write-frame-requires : tie.Need-write-frame-requires
+write-frame-requires c κs = search needs
+
+enum-known-r : tie.Need-enum-known-r
+enum-known-r c = search needs
+
+same-length : tie.Need-same-length
+same-length c = search needs
+
+returns : tie.Need-returns
+returns c = fetched (c .before .before .before .before .before .before .before .before .before .before .before .before .before .args .self) (c .before .before .before .before .before .before .before .before .before .before .before .before .before .args .index) _ _ (sym (ap outstandingOnPaper (c .before .before .before .before .before .before .before .board .given .1)) ∙ c .before .before .before .before .before .before .before .before .before .outstanding-on .ensures) _ _ _ _ (c .before .before .before .before .step-frame .ensures) (c .before .before .write-frame .ensures)
+
+returns-2 : tie.Need-returns-2
+returns-2 c = fetch-refused (c .before .before .before .before .before .before .before .args .self) (c .before .before .before .before .before .before .before .args .index) _ (sym (ap outstandingOnPaper (c .before .r .given .1)) ∙ c .before .before .before .outstanding-on .ensures) _
+
+pub outstanding-frame-spec : {M : Type 1} → statement M
+outstanding-frame-spec =
+    tie.close
+    (tie.spec
+    outstanding-on-requires
+    enum-known-board
+    slice-aggregate-step-frame
+    step-frame-requires
+    write-frame-requires
+    enum-known-r
+    same-length
+    returns
+    returns-2)

@@ -1,0 +1,18 @@
+-- `board::Board::ping` meets its contract. Assumes nothing.
+use Rattle.board.specs.Commands.{pinged}
+use borrow.Author.Needs.{needs}
+use Rattle.board.proofs.Board.ping.Statement.{statement}
+use Rattle.board.proofs.Board.ping.Tie as tie
+
+active-words-requires : tie.Need-active-words-requires
+active-words-requires c κs = search needs
+
+begin-all-requires : tie.Need-begin-all-requires
+begin-all-requires c κs = search needs
+
+returns : tie.Need-returns
+unfolding pinged
+returns c = rw (c .begin-all .ensures, c .before .active-words .ensures)
+
+pub ping-spec : {M : Type 1} → statement M
+ping-spec = tie.close (tie.spec active-words-requires begin-all-requires returns)

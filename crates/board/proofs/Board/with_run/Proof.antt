@@ -1,0 +1,12 @@
+-- `board::Board::with_run` meets its contract. Assumes nothing.
+use mathlib.Core.Path.{refl}
+use Rattle.board.specs.State.{withRun}
+use Rattle.board.proofs.Board.with_run.Statement.{statement}
+use Rattle.board.proofs.Board.with_run.Tie as tie
+
+returns : tie.Need-returns
+unfolding withRun
+returns c = refl
+
+pub with-run-spec : {M : Type 1} → statement M
+with-run-spec = tie.close (tie.spec returns)

@@ -1,0 +1,5 @@
+-- What the contracts cite, in the order of 01.
+pub mod State
+pub mod Commands
+pub mod SlowControl
+pub mod SentOut

@@ -1,0 +1,431 @@
+// The board: its state, and every call on it in the order of 01.
+ghost use mathlib.Core.Path.{_≡_};
+ghost use mathlib.Core.List.{[]};
+ghost use Prim.Native.Nat.{_≤_};
+ghost use lib.ListN.{length};
+ghost use Rattle.refusals.specs.Writing.{Wrote};
+ghost use Rattle.blocks.specs.Blocks.{measurementRules};
+ghost use Rattle.acceptance.specs.Acceptance.{answerOnPaper};
+ghost use Rattle.run.specs.Run.{clockedRun};
+ghost use Rattle.steps.specs.Steps.{heardIn, silence};
+ghost use Rattle.four_crates.specs.FourCrates.{sentOnPaper};
+ghost use Rattle.board.specs.State.{activeWords, isIdle, situationOf, withRun, withCrates, freshBoard, PowersUp};
+ghost use Rattle.board.specs.Commands.{blockIn, written, pinged, boardAnswer, boardAfter, Obeys, TriggersOn};
+ghost use Rattle.board.specs.SlowControl.{frameAt, Replies, fetchRules, sentAnswer};
+ghost use Rattle.board.specs.SentOut.{headerOf, staticDue, dynamicDue, listRules, listDue, failureRules, failureDue};
+use acceptance::CommandAnswer;
+use acceptance::Situation;
+use acceptance::decide;
+use blocks::Header;
+use blocks::write_dynamic;
+use blocks::write_failure;
+use blocks::write_static;
+use commands::Command;
+use configuration::active_word;
+use crate_pass::Crate;
+use crate_pass::PassKind;
+use crate_pass::ReplyAnswer;
+use crate_pass::crate_at_power_up;
+use four_crates::FramesSent;
+use four_crates::Outstanding;
+use four_crates::begin_all;
+use four_crates::entries_of;
+use four_crates::in_pass;
+use four_crates::outstanding_on;
+use four_crates::record_at;
+use four_crates::sent_on;
+use four_crates::serve_on;
+use ftu_list::FtuList;
+use ftu_list::write_list;
+use packets::Fields;
+use refusals::Refusal;
+use refusals::Written;
+use run::Run;
+use run::run_at_power_up;
+use steps::Heard;
+use steps::hear;
+use steps::nothing_heard;
+use steps::step_frame;
+use steps::write_frame;
+use words::copy_words;
+
+// Never changes after power-up.
+pub struct Identity {
+    // Below 2^57.
+    pub board_id: u64,
+    pub firmware_id: u16,
+}
+
+pub struct Board {
+    pub identity: Identity,
+    // Changed by commands, clock steps and triggers.
+    pub run: Run,
+    // Changed by an accepted write alone.
+    pub block: [u16; 436],
+    // Of the last pass begun.
+    pub kind: PassKind,
+    // The active words as stored when the last ping began.
+    pub active: [u16; 4],
+    // Each changed by its own replies and time-ups, and by the begin of a pass.
+    pub crates: [Crate; 4],
+}
+
+// Whether a board came up.
+pub enum PowerUp {
+    Up,
+    Refused(Refusal),
+}
+
+pub struct PoweredUp {
+    pub answer: PowerUp,
+    // No board of the caller's where power-up is refused: one of ID 0.
+    pub board: Board,
+}
+
+pub struct Obedience {
+    pub answer: CommandAnswer,
+    // The words that the command used.
+    pub used: usize,
+    pub board: Board,
+}
+
+pub struct TriggeredOn {
+    pub answer: Written,
+    pub board: Board,
+}
+
+pub struct Replied {
+    pub answer: ReplyAnswer,
+    pub board: Board,
+}
+
+// A board as power-up gives it.
+fn fresh_board(board_id: u64, firmware_id: u16) -> Board
+    ensures { λ r. ⌜ r ≡ freshBoard «board_id» «firmware_id» ⌝ }
+{
+    let run = run_at_power_up();
+    let k = crate_at_power_up();
+    Board {
+        identity: Identity {
+            board_id,
+            firmware_id,
+        },
+        run,
+        block: [0; 436],
+        kind: PassKind::Reprogramming,
+        active: [0; 4],
+        crates: [k; 4],
+    }
+}
+
+// Power-up with a board ID and a firmware ID.
+pub fn power_up(board_id: u64, firmware_id: u16) -> PoweredUp
+    ensures { λ r. ⌜ PowersUp «board_id» «firmware_id» r ⌝ }
+{
+    if 144115188075855872 <= board_id {
+        return PoweredUp {
+            answer: PowerUp::Refused(Refusal::WrongHeader),
+            board: fresh_board(0, 0),
+        };
+    }
+    PoweredUp {
+        answer: PowerUp::Up,
+        board: fresh_board(board_id, firmware_id),
+    }
+}
+
+// The block of a write, copied out of the command's words.
+fn block_in(words: &[u16]) -> [u16; 436]
+    requires { ⌜ 441 ≤ length (now words) ⌝ }
+    ensures { λ r. ⌜ r ≡ blockIn (now (words .entry)) ⌝ }
+{
+    let mut block = [0u16; 436];
+    copy_words(&words[5..441], &mut block);
+    block
+}
+
+// The four words of active flags.
+fn active_words(block: [u16; 436]) -> [u16; 4]
+    ensures { λ r. ⌜ r ≡ activeWords block ⌝ }
+{
+    [block[0x1B0], block[0x1B1], block[0x1B2], block[0x1B3]]
+}
+
+impl Board {
+    // Not running, and no pass under way.
+    pub fn is_idle(self) -> bool
+        ensures { λ r. ⌜ r ≡ isIdle self ⌝ }
+    {
+        let run = self.run;
+        let crates = self.crates;
+        if run.is_running() {
+            return false;
+        }
+        !in_pass(crates)
+    }
+
+    // What the state is to a command.
+    fn situation(self) -> Situation
+        ensures { λ r. ⌜ r ≡ situationOf self ⌝ }
+    {
+        let run = self.run;
+        Situation {
+            idle: self.is_idle(),
+            running: run.is_running(),
+            fresh: run.fresh,
+        }
+    }
+
+    // The board with another run.
+    fn with_run(self, run: Run) -> Board
+        ensures { λ r. ⌜ r ≡ withRun self run ⌝ }
+    {
+        let identity = self.identity;
+        let block = self.block;
+        let kind = self.kind;
+        let active = self.active;
+        let crates = self.crates;
+        Board {
+            identity,
+            run,
+            block,
+            kind,
+            active,
+            crates,
+        }
+    }
+
+    // A write stores the block, sets fresh and begins a reprogramming pass.
+    fn write(self, block: [u16; 436]) -> Board
+        ensures { λ r. ⌜ r ≡ written self block ⌝ }
+    {
+        let identity = self.identity;
+        let run = self.run;
+        let active = self.active;
+        let crates = self.crates;
+        let fresh = run.refresh();
+        let begun = begin_all(crates, PassKind::Reprogramming, active_words(block));
+        Board {
+            identity,
+            run: fresh,
+            block,
+            kind: PassKind::Reprogramming,
+            active,
+            crates: begun,
+        }
+    }
+
+    // A ping keeps the active words as they stand, and begins.
+    fn ping(self) -> Board
+        ensures { λ r. ⌜ r ≡ pinged self ⌝ }
+    {
+        let identity = self.identity;
+        let run = self.run;
+        let block = self.block;
+        let crates = self.crates;
+        let active = active_words(block);
+        let begun = begin_all(crates, PassKind::Ping, active);
+        Board {
+            identity,
+            run,
+            block,
+            kind: PassKind::Ping,
+            active,
+            crates: begun,
+        }
+    }
+
+    // Does what an obeyed command says. A read, a crate reset and a refusal change nothing.
+    fn carry_out(self, answer: CommandAnswer, words: &[u16]) -> Board
+        requires { ⌜ answerOnPaper answer ≡ boardAnswer self (now words) ⌝ }
+        ensures { λ r. ⌜ r ≡ boardAfter self (now (words .entry)) ⌝ }
+    {
+        let run = self.run;
+        match answer {
+            CommandAnswer::Refused(_) => self,
+            CommandAnswer::Obeyed(c) => match c {
+                Command::Read(_) => self,
+                Command::Write => self.write(block_in(words)),
+                Command::Start(length) => self.with_run(run.start(length)),
+                Command::Stop => self.with_run(run.stop()),
+                Command::Ping => self.ping(),
+                Command::CrateReset(_) => self,
+            },
+        }
+    }
+
+    // The first command of the words.
+    pub fn obey(self, words: &[u16]) -> Obedience
+        ensures { λ r. ⌜ Obeys self (now (words .entry)) r ⌝ }
+    {
+        let decision = decide(words, self.situation());
+        let answer = decision.answer;
+        Obedience {
+            answer,
+            used: decision.used,
+            board: self.carry_out(answer, words),
+        }
+    }
+
+    // A clock step.
+    pub fn clock(self, ticks: u32) -> Board
+        ensures { λ r. ⌜ r ≡ withRun self (clockedRun (self .run) ticks) ⌝ }
+    {
+        let run = self.run;
+        self.with_run(run.clock(ticks))
+    }
+
+    // A trigger, whose packet goes into the lent bytes.
+    pub fn trigger(self, fields: Fields, out: &mut [u8]) -> TriggeredOn
+        ensures { λ r. ⌜ TriggersOn self fields (now (out .entry)) r (now (out .exit)) ⌝ }
+    {
+        let run = self.run;
+        let t = run.trigger(fields, out);
+        let answer = t.answer;
+        let next = t.run;
+        TriggeredOn {
+            answer,
+            board: self.with_run(next),
+        }
+    }
+
+    // The board with other crates.
+    fn with_crates(self, crates: [Crate; 4]) -> Board
+        ensures { λ r. ⌜ r ≡ withCrates self crates ⌝ }
+    {
+        let identity = self.identity;
+        let run = self.run;
+        let block = self.block;
+        let kind = self.kind;
+        let active = self.active;
+        Board {
+            identity,
+            run,
+            block,
+            kind,
+            active,
+            crates,
+        }
+    }
+
+    // What every reply and time-up does: a refusal, or a step of its crate.
+    fn serve(self, index: u8, heard: Heard) -> Replied
+        ensures { λ r. ⌜ Replies self index heard r ⌝ }
+    {
+        let crates = self.crates;
+        let block = self.block;
+        let kind = self.kind;
+        let served = serve_on(crates, index, kind, active_word(&block, index), heard);
+        let answer = served.answer;
+        let after = served.crates;
+        Replied {
+            answer,
+            board: self.with_crates(after),
+        }
+    }
+
+    // A reply, of any length, on a crate.
+    pub fn reply(self, index: u8, bytes: &[u8]) -> Replied
+        ensures { λ r. ⌜ Replies self index (heardIn (frameAt self index) (now (bytes .entry))) r ⌝ }
+    {
+        let crates = self.crates;
+        let block = self.block;
+        match outstanding_on(crates, index) {
+            Outstanding::Step(board, code) => {
+                let sent = step_frame(&block, index, board, code);
+                self.serve(index, hear(sent, bytes))
+            }
+            Outstanding::Refused(_) => self.serve(index, nothing_heard()),
+        }
+    }
+
+    // A time-up on a crate.
+    pub fn time_up(self, index: u8) -> Replied
+        ensures { λ r. ⌜ Replies self index silence r ⌝ }
+    {
+        self.serve(index, nothing_heard())
+    }
+
+    // The frame outstanding on a crate, into lent bytes.
+    pub fn outstanding_frame(self, index: u8, out: &mut [u8]) -> Written
+        ensures { λ r. ⌜ Wrote (fetchRules self index) (frameAt self index) (now (out .entry)) r (now (out .exit)) ⌝ }
+    {
+        let crates = self.crates;
+        let block = self.block;
+        match outstanding_on(crates, index) {
+            Outstanding::Step(board, code) => write_frame(
+                step_frame(&block, index, board, code),
+                out,
+            ),
+            Outstanding::Refused(r) => Written::Refused(r),
+        }
+    }
+
+    // The number of frames sent on a crate in this pass, or in the last.
+    pub fn frames_sent(self, index: u8) -> FramesSent
+        ensures { λ r. ⌜ sentOnPaper r ≡ sentAnswer self index ⌝ }
+    {
+        let crates = self.crates;
+        sent_on(crates, index)
+    }
+
+    // The header of every block sent out.
+    fn header(self) -> Header
+        ensures { λ r. ⌜ r ≡ headerOf self ⌝ }
+    {
+        let identity = self.identity;
+        let run = self.run;
+        Header {
+            board_id: identity.board_id,
+            firmware_id: identity.firmware_id,
+            trigger_counter: run.trigger_counter,
+            timestamp: run.timestamp,
+        }
+    }
+
+    // The static block, into lent words.
+    pub fn static_block(self, out: &mut [u16]) -> Written
+        ensures { λ r. ⌜ Wrote [] (staticDue self) (now (out .entry)) r (now (out .exit)) ⌝ }
+    {
+        let block = self.block;
+        write_static(self.header(), block, out)
+    }
+
+    // The dynamic block, with lent measurements, into lent words.
+    pub fn dynamic_block(self, measurements: &[u16], out: &mut [u16]) -> Written
+        ensures { λ r. ⌜ Wrote (measurementRules (now (measurements .entry))) (dynamicDue self (now (measurements .entry))) (now (out .entry)) r (now (out .exit)) ⌝ }
+    {
+        let run = self.run;
+        write_dynamic(self.header(), run.on_time, measurements, out)
+    }
+
+    // The FTU list, into lent words.
+    pub fn ftu_list(self, out: &mut [u16]) -> Written
+        ensures { λ r. ⌜ Wrote (listRules self) (listDue self) (now (out .entry)) r (now (out .exit)) ⌝ }
+    {
+        let active = self.active;
+        let crates = self.crates;
+        if in_pass(crates) {
+            return Written::Refused(Refusal::NotAcceptedNow);
+        }
+        let entries = entries_of(crates);
+        write_list(self.header(), FtuList { active, entries }, out)
+    }
+
+    // The failure message of an ordinal, into lent words.
+    pub fn failure_message(self, ordinal: usize, out: &mut [u16]) -> Written
+        ensures { λ r. ⌜ Wrote (failureRules self ordinal) (failureDue self ordinal) (now (out .entry)) r (now (out .exit)) ⌝ }
+    {
+        let crates = self.crates;
+        let block = self.block;
+        if in_pass(crates) {
+            return Written::Refused(Refusal::NotAcceptedNow);
+        }
+        let record = record_at(crates, ordinal);
+        if record.code == 0 {
+            return Written::Refused(Refusal::NoSuchRecord);
+        }
+        let frame = step_frame(&block, record.k / 10, record.k % 10, record.code);
+        write_failure(self.header(), 3, frame, out)
+    }
+}

@@ -1,0 +1,2 @@
+-- Order of items by a number that each has.
+pub mod Order

@@ -1,0 +1,160 @@
+-- 01, Slow control: one crate in a pass. Its place is a board and a code; crates/any_order shows that it walks the steps of a pass.
+use Prim.Native.Nat.{ℕ, zero, suc, _+_, _-_}
+use mathlib.Core.Path.{_≡_}
+use mathlib.Core.Bool.{Bool, true, false, cond}
+use mathlib.Core.List.{List, [], _∷_}
+use lib.Dec.{ltb, leb, eqb}
+use lib.ListN.{set, replicate}
+use Rattle.refusals.specs.Tables.{Answer, given, refused, Rule, rule, lowest, onPaper}
+use Rattle.configuration.specs.Configuration.{flagSet}
+use Rattle.ftu_list.specs.declared.Entry.{Entry}
+use Rattle.steps.specs.declared.Heard.{Heard}
+use Rattle.crate_pass.specs.declared.PassKind.{PassKind}
+use Rattle.crate_pass.specs.declared.PassKind.the-variants.{Reprogramming, Ping}
+use Rattle.crate_pass.specs.declared.Outcome.{Outcome}
+use Rattle.crate_pass.specs.declared.Outcome.the-variants.{Good, Again, BoardFailed}
+use Rattle.crate_pass.specs.declared.ReplyAnswer.{ReplyAnswer}
+use Rattle.crate_pass.specs.declared.ReplyAnswer.the-variants.{Served, Refused}
+use Rattle.crate_pass.specs.declared.Crate.{Crate}
+use Rattle.crate_pass.specs.declared.Moved.{Moved}
+use Rattle.crate_pass.specs.declared.CrateServed.{CrateServed}
+
+-- "In a reprogramming pass each crate serves its active boards ..; in a ping, all ten"
+abbrev pub serves : PassKind → ℕ → ℕ → Bool
+serves Reprogramming w b = flagSet w b
+serves Ping w b = true
+
+-- "in rising order": the first board that the pass serves of n from b on, or 10
+unfoldable pub firstServed : PassKind → ℕ → ℕ → ℕ → ℕ
+firstServed kind w zero b = 10
+firstServed kind w (suc n) b = cond (serves kind w b) b (firstServed kind w n (suc b))
+
+unfoldable pub nextBoard : PassKind → ℕ → ℕ → ℕ
+nextBoard kind w b = firstServed kind w (10 - b) b
+
+-- "with codes 1, 2, 3; in a ping .. with code 4"
+abbrev pub firstCode : PassKind → ℕ
+firstCode Reprogramming = 1
+firstCode Ping = 4
+
+-- ---- power-up, and the begin of a pass
+
+-- a board that did not answer: "six zeros" in the list
+abbrev pub silent : Entry
+silent = record { calls = 0; dna = 0; «crc_errors» = 0 }
+
+-- nothing is outstanding: the place is no board
+abbrev pub isDone : Crate → Bool
+isDone k = leb 10 (k .board)
+
+-- "an empty list, no failure records", and the number of frames "is 0 before any" pass
+abbrev pub crateAtPowerUp : Crate
+crateAtPowerUp = record { board = 10; code = 0; tries = 0; sent = 0; failed = replicate 10 0; entries = replicate 10 silent }
+
+-- the number of frames as a pass begins: "one more while a frame is outstanding"
+unfoldable pub sentAt : ℕ → ℕ
+sentAt board = cond (ltb board 10) 1 0
+
+-- "A ping clears the list as it begins; no other command changes it"
+abbrev pub keptEntries : PassKind → List Entry → List Entry
+keptEntries Reprogramming entries = entries
+keptEntries Ping entries = replicate 10 silent
+
+-- records "are cleared when a pass begins"
+unfoldable pub begunCrate : PassKind → ℕ → Crate → Crate
+begunCrate kind w k =
+    record {
+      board = nextBoard kind w 0;
+      code = firstCode kind;
+      tries = 0;
+      sent = sentAt (nextBoard kind w 0);
+      failed = replicate 10 0;
+      entries = keptEntries kind (k .entries);
+    }
+
+-- ---- from step to step
+
+-- one frame more where the place is a board. No pass comes near 65,535 frames
+unfoldable pub countedFrame : ℕ → ℕ → ℕ
+countedFrame b n = cond (ltb b 10) (cond (ltb n 65535) (n + 1) n) n
+
+-- another place of the crate
+unfoldable pub placed : Crate → ℕ → ℕ → ℕ → Crate
+placed k b code tries =
+    record { board = b; code = code; tries = tries; sent = countedFrame b (k .sent); failed = k .failed; entries = k .entries }
+
+-- the first step of the next board
+unfoldable pub advanced : PassKind → ℕ → Crate → Crate
+advanced kind w k = placed k (nextBoard kind w (k .board + 1)) (firstCode kind) 0
+
+-- the next step: codes 1 and 2 have one after them on the same board
+unfoldable pub stepped : PassKind → ℕ → Crate → Crate
+stepped kind w k = cond (ltb (k .code) 3) (placed k (k .board) (k .code + 1) 0) (advanced kind w k)
+
+-- "calls needed": the one that was answered, after so many that were not. There is no fourth
+abbrev pub callsAt : ℕ → ℕ
+callsAt tries = cond (ltb tries 2) (tries + 1) 3
+
+abbrev pub entryOf : ℕ → Heard → Entry
+entryOf tries h = record { calls = callsAt tries; dna = h .dna; «crc_errors» = h .«crc_errors» }
+
+-- the list with an entry for the board, where its frame was a ping
+unfoldable pub entriesWith : ℕ → ℕ → ℕ → Heard → List Entry → List Entry
+entriesWith board code tries h entries = cond (eqb code 4) (set entries board (entryOf tries h)) entries
+
+unfoldable pub noted : Crate → Heard → Crate
+noted k h =
+    record {
+      board = k .board;
+      code = k .code;
+      tries = k .tries;
+      sent = k .sent;
+      failed = k .failed;
+      entries = entriesWith (k .board) (k .code) (k .tries) h (k .entries);
+    }
+
+-- "the board gets a failure record": the code of the step that failed
+unfoldable pub marked : Crate → Crate
+marked k =
+    record { board = k .board; code = k .code; tries = k .tries; sent = k .sent; failed = set (k .failed) (k .board) (k .code); entries = k .entries }
+
+-- ---- replies and time-ups
+
+-- an outcome says "whether the crate is done"
+abbrev pub told : (Bool → Outcome) → Crate → Moved
+told outcome k = record { outcome = outcome (isDone k); state = k }
+
+-- "A good reply moves to the next step"
+unfoldable pub passed : PassKind → ℕ → Crate → Heard → Moved
+passed kind w k h = told Good (stepped kind w (noted k h))
+
+-- "A bad reply, or a time-up, sends again; after the third send of a step fails, the board gets a failure record and its other steps are
+-- dropped"
+unfoldable pub missed : PassKind → ℕ → Crate → Moved
+missed kind w k =
+    cond (ltb (k .tries) 2)
+    (told Again (placed k (k .board) (k .code) (k .tries + 1)))
+    (told BoardFailed (advanced kind w (marked k)))
+
+abbrev pub moved : PassKind → ℕ → Crate → Heard → Moved
+moved kind w k h = cond (h .good) (passed kind w k h) (missed kind w k)
+
+-- an answer as 01 has it
+abbrev pub replyOnPaper : ReplyAnswer → Answer Outcome
+replyOnPaper (Served o) = given o
+replyOnPaper (Refused r) = onPaper r
+
+-- "12: nothing outstanding there"
+abbrev pub crateRules : Crate → List Rule
+crateRules k = rule 12 (isDone k) ∷ []
+
+unfoldable pub crateAnswer : PassKind → ℕ → Crate → Heard → Answer Outcome
+crateAnswer kind w k h = lowest (crateRules k) (moved kind w k h .outcome)
+
+unfoldable pub crateAfter : PassKind → ℕ → Crate → Heard → Crate
+crateAfter kind w k h = cond (isDone k) k (moved kind w k h .state)
+
+-- the crate answered r
+pub record Serves (kind : PassKind) (w : ℕ) (k : Crate) (h : Heard) (r : CrateServed) : Type 0 where
+  pub answer : replyOnPaper (r .answer) ≡ crateAnswer kind w k h
+  pub state : r .state ≡ crateAfter kind w k h

@@ -1,0 +1,73 @@
+-- The search for a failure record, one board at a time.
+-- Assumes nothing.
+use Prim.Native.Nat.{ℕ, zero, suc, _+_, _-_, _<_, _≤_}
+use mathlib.Core.Path.{_≡_, refl, sym, ap, _∙_}
+use mathlib.Core.Bool.{Bool, true, false, cond}
+use mathlib.Core.List.{List, _∷_}
+use native.Mathlib.Omega.{arith}
+use native.Mathlib.Numerals.{add-one}
+use lib.Dec.{eqb, leb}
+use lib.ListN.{length, getD}
+use borrow.Author.Tests.{eq-eqb, ne-eqb, le-leb, lt-leb, leb-true, leb-false}
+use Rattle.crate_pass.specs.declared.Crate.{Crate}
+use Rattle.four_crates.specs.FourCrates.{failedAt, failure, recordsFrom, records, recordAt}
+use Rattle.four_crates.specs.declared.Failure.{Failure}
+
+module _ (cs : List Crate) where
+  -- the records from board k on, and the n-th of them
+  abbrev pub left : ℕ → List Failure
+  left k = recordsFrom cs (40 - k) k
+
+  abbrev pub found : ℕ → ℕ → Failure
+  found k n = getD (left k) n (failure 0 0)
+
+  left-suc : (k : ℕ) → k < 40 → 40 - k ≡ suc (40 - (k + 1))
+  left-suc k h = omega arith
+
+  skip : (k : ℕ) → k < 40 → failedAt cs k ≡ 0 → left k ≡ left (k + 1)
+  skip k h e = rw (left-suc k h) (rw (eq-eqb _ _ e, add-one k) refl)
+
+  here : (k : ℕ) → k < 40 → (failedAt cs k ≡ 0 → ⊥) → left k ≡ failure k (failedAt cs k) ∷ left (k + 1)
+  here k h e = rw (left-suc k h) (rw (ne-eqb _ _ e, add-one k) refl)
+
+  pub found-skip : (k n : ℕ) → k < 40 → failedAt cs k ≡ 0 → found k n ≡ found (k + 1) n
+  found-skip k n h e = ap (λ (l : List Failure). getD l n (failure 0 0)) (skip k h e)
+
+  pub found-here : (k : ℕ) → k < 40 → (failedAt cs k ≡ 0 → ⊥) → found k 0 ≡ failure k (failedAt cs k)
+  found-here k h e = ap (λ (l : List Failure). getD l 0 (failure 0 0)) (here k h e)
+
+  pub found-later : (k n : ℕ) → k < 40 → (failedAt cs k ≡ 0 → ⊥) → (n ≡ 0 → ⊥) → found k n ≡ found (k + 1) (n - 1)
+  found-later k n h e z =
+      let s : n ≡ suc (n - 1) = omega arith in
+      ap (λ (l : List Failure). getD l n (failure 0 0)) (here k h e)
+      ∙ ap (λ (m : ℕ). getD (failure k (failedAt cs k) ∷ left (k + 1)) m (failure 0 0)) s
+
+  pub found-none : (k n : ℕ) → 40 ≤ k → found k n ≡ failure 0 0
+  found-none k n h = let z : 40 - k ≡ 0 = omega arith in rw z refl
+
+  pub found-first : (n : ℕ) → found 0 n ≡ recordAt cs n
+  unfolding records
+  found-first n = refl
+
+leb-suc : (m n : ℕ) → leb (suc m) (suc n) ≡ leb m n
+leb-suc m n = go (leb m n) refl
+  where
+    go : (t : Bool) → leb m n ≡ t → leb (suc m) (suc n) ≡ leb m n
+    go true e = le-leb (suc m) (suc n) (let h = leb-true m n e in omega arith) ∙ sym e
+    go false e = lt-leb (suc m) (suc n) (let h = leb-false m n e in omega arith) ∙ sym e
+
+-- every record has a code, so one with code 0 is none
+coded : (cs : List Crate) (n k i : ℕ) → leb (length (recordsFrom cs n k)) i ≡ eqb (getD (recordsFrom cs n k) i (failure 0 0) .code) 0
+coded cs zero k i = le-leb 0 i (omega arith)
+coded cs (suc n) k i = go (eqb (failedAt cs k) 0) refl i (λ j. coded cs n (suc k) j)
+  where
+    go : (t : Bool) → eqb (failedAt cs k) 0 ≡ t → (i : ℕ) → ((j : ℕ) → leb (length (recordsFrom cs n (suc k))) j ≡ eqb (getD (recordsFrom cs n (suc k)) j (failure 0 0) .code) 0)
+        → leb (length (cond t (recordsFrom cs n (suc k)) (failure k (failedAt cs k) ∷ recordsFrom cs n (suc k)))) i
+        ≡ eqb (getD (cond t (recordsFrom cs n (suc k)) (failure k (failedAt cs k) ∷ recordsFrom cs n (suc k))) i (failure 0 0) .code) 0
+    go true e i ih = ih i
+    go false e zero ih = lt-leb (suc (length (recordsFrom cs n (suc k)))) 0 (omega arith) ∙ sym e
+    go false e (suc i) ih = leb-suc (length (recordsFrom cs n (suc k))) i ∙ ih i
+
+pub record-coded : (cs : List Crate) (n : ℕ) → leb (length (records cs)) n ≡ eqb (recordAt cs n .code) 0
+unfolding records
+record-coded cs n = coded cs 40 0 n

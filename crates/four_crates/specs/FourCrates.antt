@@ -1,0 +1,118 @@
+-- 01, Slow control, and Blocks sent out: what the four crates are together. None of it is stored.
+use Prim.Native.Nat.{ℕ, zero, suc, _/_, _%_}
+use mathlib.Core.Path.{_≡_}
+use mathlib.Core.Bool.{Bool, not, cond, _||_}
+use mathlib.Core.List.{List, [], _∷_}
+use lib.Dec.{eqb, ltb}
+use lib.ListN.{getD, set}
+use Rattle.refusals.specs.Tables.{Answer, given, refused, Rule, rule, lowest, onPaper}
+use Rattle.ftu_list.specs.declared.Entry.{Entry}
+use Rattle.steps.specs.declared.Heard.{Heard}
+use Rattle.crate_pass.specs.Crate.{silent, isDone, begunCrate, moved, crateRules, replyOnPaper}
+use Rattle.crate_pass.specs.declared.PassKind.{PassKind}
+use Rattle.crate_pass.specs.declared.Outcome.{Outcome}
+use Rattle.crate_pass.specs.declared.Crate.{Crate}
+use Rattle.crate_pass.specs.declared.Moved.{Moved}
+use Rattle.four_crates.specs.declared.Outstanding.{Outstanding}
+use Rattle.four_crates.specs.declared.Outstanding.the-variants.{Step}
+use Rattle.four_crates.specs.declared.FramesSent.{FramesSent}
+use Rattle.four_crates.specs.declared.FramesSent.the-variants.{Number}
+use Rattle.four_crates.specs.declared.FourServed.{FourServed}
+use Rattle.four_crates.specs.declared.Failure.{Failure}
+
+-- what stands for a crate above 3, which there is none of
+abbrev pub noCrate : Crate
+noCrate = record { board = 0; code = 0; tries = 0; sent = 0; failed = []; entries = [] }
+
+abbrev pub crateOf : List Crate → ℕ → Crate
+crateOf cs i = getD cs i noCrate
+
+-- a pass is under way while a frame is outstanding on a crate: "when all are done the board is idle"
+unfoldable pub inPass : List Crate → Bool
+inPass cs = not (isDone (crateOf cs 0)) || not (isDone (crateOf cs 1)) || not (isDone (crateOf cs 2)) || not (isDone (crateOf cs 3))
+
+-- a pass begins on each crate, with its word of active flags
+unfoldable pub begunAll : PassKind → List ℕ → List Crate → List Crate
+begunAll kind words cs =
+    begunCrate kind (getD words 0 0) (crateOf cs 0)
+    ∷ begunCrate kind (getD words 1 0) (crateOf cs 1)
+    ∷ begunCrate kind (getD words 2 0) (crateOf cs 2)
+    ∷ begunCrate kind (getD words 3 0) (crateOf cs 3)
+    ∷ []
+
+-- ---- replies and time-ups, the outstanding frame, and the number of frames
+
+-- "11: crate above 3"
+abbrev pub noSuchCrate : ℕ → Rule
+noSuchCrate i = rule 11 (ltb 3 i)
+
+-- 11, then "12: nothing outstanding there"
+abbrev pub servedRules : List Crate → ℕ → List Rule
+servedRules cs i = noSuchCrate i ∷ crateRules (crateOf cs i)
+
+-- the board and the code of the outstanding frame
+abbrev pub outstandingOnPaper : Outstanding → Answer (ℕ × ℕ)
+outstandingOnPaper (Step b code) = given (b, code)
+outstandingOnPaper (Outstanding.Refused r) = onPaper r
+
+unfoldable pub outstandingAnswer : List Crate → ℕ → Answer (ℕ × ℕ)
+outstandingAnswer cs i = lowest (servedRules cs i) (crateOf cs i .board, crateOf cs i .code)
+
+-- "The number of frames sent on a crate"
+abbrev pub sentOnPaper : FramesSent → Answer ℕ
+sentOnPaper (Number n) = given n
+sentOnPaper (FramesSent.Refused r) = onPaper r
+
+unfoldable pub sentOn : List Crate → ℕ → Answer ℕ
+sentOn cs i = lowest (noSuchCrate i ∷ []) (crateOf cs i .sent)
+
+-- what is heard on crate i moves that crate
+abbrev pub movedOn : List Crate → ℕ → PassKind → ℕ → Heard → Moved
+movedOn cs i kind w h = moved kind w (crateOf cs i) h
+
+unfoldable pub servedAnswer : List Crate → ℕ → PassKind → ℕ → Heard → Answer Outcome
+servedAnswer cs i kind w h = lowest (servedRules cs i) (movedOn cs i kind w h .outcome)
+
+-- "The four crates proceed apart": one changes, and no other
+abbrev pub afterServed : List Crate → ℕ → PassKind → ℕ → Heard → Answer Outcome → List Crate
+afterServed cs i kind w h (given o) = set cs i (movedOn cs i kind w h .state)
+afterServed cs i kind w h (refused n p) = cs
+
+-- the crates answered r
+pub record ServesOn (cs : List Crate) (i : ℕ) (kind : PassKind) (w : ℕ) (h : Heard) (r : FourServed) : Type 0 where
+  pub answer : replyOnPaper (r .answer) ≡ servedAnswer cs i kind w h
+  pub crates : r .crates ≡ afterServed cs i kind w h (servedAnswer cs i kind w h)
+
+-- ---- the FTU list: "Board b (0 to 9) of crate c is k = 10c + b"
+
+abbrev pub entryAt : List Crate → ℕ → Entry
+entryAt cs k = getD (crateOf cs (k / 10) .entries) (k % 10) silent
+
+-- the entries of n boards from k on
+abbrev pub entriesFrom : List Crate → ℕ → ℕ → List Entry
+entriesFrom cs zero k = []
+entriesFrom cs (suc n) k = entryAt cs k ∷ entriesFrom cs n (suc k)
+
+unfoldable pub entriesOf : List Crate → List Entry
+entriesOf cs = entriesFrom cs 40 0
+
+-- ---- the failure records: "Records stand in rising k, 40 at most, numbered from 0"
+
+-- the code that failed on board k, 0 where none did
+unfoldable pub failedAt : List Crate → ℕ → ℕ
+failedAt cs k = cond (ltb k 40) (getD (crateOf cs (k / 10) .failed) (k % 10) 0) 0
+
+abbrev pub failure : ℕ → ℕ → Failure
+failure k code = record { k = k; code = code }
+
+-- the records among n boards from k on
+abbrev pub recordsFrom : List Crate → ℕ → ℕ → List Failure
+recordsFrom cs zero k = []
+recordsFrom cs (suc n) k = cond (eqb (failedAt cs k) 0) (recordsFrom cs n (suc k)) (failure k (failedAt cs k) ∷ recordsFrom cs n (suc k))
+
+unfoldable pub records : List Crate → List Failure
+records cs = recordsFrom cs 40 0
+
+-- the record of an ordinal; code 0, which no record has, where there is none
+abbrev pub recordAt : List Crate → ℕ → Failure
+recordAt cs n = getD (records cs) n (failure 0 0)

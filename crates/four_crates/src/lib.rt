@@ -1,0 +1,176 @@
+// The four crates: a pass begun on all of them, whether one is under way, the entries of the FTU list, and the failure records.
+ghost use mathlib.Core.Path.{_≡_};
+ghost use Rattle.four_crates.specs.FourCrates.{inPass, begunAll, outstandingOnPaper, outstandingAnswer, sentOnPaper, sentOn, ServesOn, entriesOf, failedAt, recordAt};
+use crate_pass::Crate;
+use crate_pass::PassKind;
+use crate_pass::ReplyAnswer;
+use ftu_list::Entry;
+use refusals::Refusal;
+use steps::Heard;
+
+// A board k that failed, with the number of the code of the step that did.
+pub struct Failure {
+    pub k: u8,
+    pub code: u8,
+}
+
+// The board and the code of the frame outstanding on a crate.
+pub enum Outstanding {
+    Step(u8, u8),
+    Refused(Refusal),
+}
+
+// The number of frames sent on a crate.
+pub enum FramesSent {
+    Number(u16),
+    Refused(Refusal),
+}
+
+// An answer, with the crates after it.
+pub struct FourServed {
+    pub answer: ReplyAnswer,
+    pub crates: [Crate; 4],
+}
+
+// Whether a frame is outstanding on some crate.
+pub fn in_pass(crates: [Crate; 4]) -> bool
+    ensures { λ r. ⌜ r ≡ inPass crates ⌝ }
+{
+    let a = crates[0];
+    if a.board < 10 {
+        return true;
+    }
+    let b = crates[1];
+    if b.board < 10 {
+        return true;
+    }
+    let c = crates[2];
+    if c.board < 10 {
+        return true;
+    }
+    let d = crates[3];
+    d.board < 10
+}
+
+// A pass begins on all four, each with its word of active flags.
+pub fn begin_all(crates: [Crate; 4], kind: PassKind, words: [u16; 4]) -> [Crate; 4]
+    ensures { λ r. ⌜ r ≡ begunAll kind words crates ⌝ }
+{
+    let a = crates[0];
+    let b = crates[1];
+    let c = crates[2];
+    let d = crates[3];
+    [
+        a.begin(kind, words[0]),
+        b.begin(kind, words[1]),
+        c.begin(kind, words[2]),
+        d.begin(kind, words[3]),
+    ]
+}
+
+// The frame outstanding on a crate.
+pub fn outstanding_on(crates: [Crate; 4], index: u8) -> Outstanding
+    ensures { λ r. ⌜ outstandingOnPaper r ≡ outstandingAnswer crates index ⌝ }
+{
+    if 3 < index {
+        return Outstanding::Refused(Refusal::NoSuchCrate);
+    }
+    let own = crates[index as usize];
+    if own.is_done() {
+        return Outstanding::Refused(Refusal::NothingOutstanding);
+    }
+    Outstanding::Step(own.board, own.code)
+}
+
+// The number of frames sent on a crate.
+pub fn sent_on(crates: [Crate; 4], index: u8) -> FramesSent
+    ensures { λ r. ⌜ sentOnPaper r ≡ sentOn crates index ⌝ }
+{
+    if 3 < index {
+        return FramesSent::Refused(Refusal::NoSuchCrate);
+    }
+    let own = crates[index as usize];
+    FramesSent::Number(own.sent)
+}
+
+// What a reply or a time-up on a crate gets; it changes that crate alone.
+pub fn serve_on(
+    crates: [Crate; 4],
+    index: u8,
+    kind: PassKind,
+    word: u16,
+    heard: Heard,
+) -> FourServed
+    ensures { λ r. ⌜ ServesOn crates index kind word heard r ⌝ }
+{
+    if 3 < index {
+        return FourServed {
+            answer: ReplyAnswer::Refused(Refusal::NoSuchCrate),
+            crates,
+        };
+    }
+    let at = index as usize;
+    let old = crates[at];
+    let served = old.serve(kind, word, heard);
+    let answer = served.answer;
+    let state = served.state;
+    let mut next = crates;
+    next[at] = state;
+    FourServed {
+        answer,
+        crates: next,
+    }
+}
+
+// The entries of the FTU list, board b of crate c at 10c + b.
+pub fn entries_of(crates: [Crate; 4]) -> [Entry; 40]
+    ensures { λ r. ⌜ r ≡ entriesOf crates ⌝ }
+{
+    let silent = Entry {
+        calls: 0,
+        dna: 0,
+        crc_errors: 0,
+    };
+    let mut entries = [silent; 40];
+    let mut k = 0;
+    while k < 40 {
+        let own = crates[k / 10];
+        let part = own.entries;
+        let entry = part[k % 10];
+        entries[k] = entry;
+        k += 1;
+    }
+    entries
+}
+
+// The code that failed on board k, 0 where none did.
+fn failed_at(crates: [Crate; 4], k: usize) -> u8
+    ensures { λ r. ⌜ r ≡ failedAt crates k ⌝ }
+{
+    if k < 40 {
+        let own = crates[k / 10];
+        let codes = own.failed;
+        codes[k % 10]
+    } else {
+        0
+    }
+}
+
+// The failure record of an ordinal, in rising k; where there is none its code is 0.
+pub fn record_at(crates: [Crate; 4], ordinal: usize) -> Failure
+    ensures { λ r. ⌜ r ≡ recordAt crates ordinal ⌝ }
+{
+    let mut left = ordinal;
+    let mut k: u8 = 0;
+    while k < 40 {
+        let code = failed_at(crates, k as usize);
+        if code != 0 {
+            if left == 0 {
+                return Failure { k, code };
+            }
+            left -= 1;
+        }
+        k += 1;
+    }
+    Failure { k: 0, code: 0 }
+}

@@ -1,0 +1,71 @@
+-- "An accepted block reads back identical until the next accepted write" (`block-kept`, `static-kept`).
+-- Assumes nothing.
+use Prim.Native.Nat.{ℕ, _^_, _<_}
+use mathlib.Core.Path.{_≡_, refl, sym, _∙_, subst}
+use mathlib.Core.Bool.{true, false}
+use mathlib.Core.List.{List, [], _∷_}
+use lib.ListN.{take}
+use Rattle.refusals.specs.Tables.{Answer, given, refused}
+use Rattle.refusals.specs.Writing.{Wrote}
+use Rattle.refusals.specs.declared.Written.the-variants.{Length}
+use Rattle.commands.specs.declared.Command.{Command}
+use Rattle.commands.specs.declared.Command.the-variants.{Read, Write, Start, Stop, Ping, CrateReset}
+use Rattle.command_reader.specs.Reading.{blockOf}
+use Rattle.block_reader.specs.declared.Kind.the-variants.{Static}
+use Rattle.round_trips.specs.Blocks.{ReadsBack}
+use Rattle.board.specs.State.{withRun, freshBoard}
+use Rattle.board.specs.Commands.{boardAnswer, blockIn, pinged, afterCommand, boardAfter}
+use Rattle.board.specs.declared.Board.{Board}
+use Rattle.board.specs.SentOut.{headerOf, staticDue}
+use Rattle.reachable.specs.Calls.{Call, command, clockStep, trigger, reply, timeUp, afterCall, afterAll, isWrite, noWrite}
+use Rattle.reachable.specs.Reachable.{Reachable}
+use Rattle.reachable.proofs.Holding.{holds-reachable, holds-power-up}
+use Rattle.reachable.proofs.States.{holds-command, holds-all}
+use Rattle.reachable.proofs.ReadBack.{static-reads}
+use Rattle.reachable.proofs.OneCall.{false≢true, Free, none-first, replied-block}
+use Rattle.reachable.proofs.Accepted.{written-block}
+
+command-keeps : (β : Board) (block : List ℕ) (a : Answer Command) → isWrite a ≡ false → afterCommand β block a .block ≡ β .block
+unfolding withRun pinged
+command-keeps β block (given (Read kind)) e = refl
+command-keeps β block (given Write) e = false≢true (sym e)
+command-keeps β block (given (Start run)) e = refl
+command-keeps β block (given Stop) e = refl
+command-keeps β block (given Ping) e = refl
+command-keeps β block (given (CrateReset c)) e = refl
+command-keeps β block (refused n p) e = refl
+
+call-keeps : (β : Board) (x : Call) → Free isWrite β x → afterCall β x .block ≡ β .block
+unfolding afterCall withRun
+call-keeps β (command words) free = command-keeps β (blockIn words) (boardAnswer β words) free
+call-keeps β (clockStep ticks) free = refl
+call-keeps β (trigger fields out) free = refl
+call-keeps β (reply c bytes) free = replied-block β c _
+call-keeps β (timeUp c) free = replied-block β c _
+
+calls-keep : (β : Board) (xs : List Call) → noWrite β xs ≡ true → afterAll β xs .block ≡ β .block
+calls-keep β [] e = refl
+calls-keep β (x ∷ xs) e =
+    let first = none-first isWrite β x xs e in
+    calls-keep (afterCall β x) xs (first .1) ∙ call-keeps β x (first .0)
+
+-- whatever else happens after an accepted write, its block is the one that is stored
+pub block-kept : (β : Board) (w : List ℕ) → boardAnswer β w ≡ given Write → (xs : List Call) → noWrite (boardAfter β w) xs ≡ true
+    → afterAll (boardAfter β w) xs .block ≡ blockOf w
+block-kept β w e xs free = calls-keep (boardAfter β w) xs free ∙ written-block β w e
+
+-- and the static block that the board then writes reads back with it: from power-up, through any calls, to a write, and on to the state `later`
+module _ (id firmware : ℕ) (i : id < 2 ^ 57) (f : firmware < 65536) (before : List Call) (w : List ℕ) (xs : List Call) where
+  abbrev now : Board
+  now = afterAll (freshBoard id firmware) before
+
+  abbrev later : Board
+  later = afterAll (boardAfter now w) xs
+
+  reachable-later : Reachable later
+  reachable-later = holds-reachable later (holds-all (boardAfter now w) xs (holds-command now w (holds-all (freshBoard id firmware) before (holds-power-up id firmware i f))))
+
+  pub static-kept : boardAnswer now w ≡ given Write → noWrite (boardAfter now w) xs ≡ true
+      → (out after : List ℕ) (n : ℕ) → Wrote [] (staticDue later) out (Length n) after → ReadsBack Static (take n after) (headerOf later) (blockOf w)
+  static-kept e free out after n wrote =
+      subst (ReadsBack Static (take n after) (headerOf later)) (block-kept now w e xs free) (static-reads later reachable-later out after n wrote)

@@ -1,0 +1,10 @@
+-- The laws that the theorems rest on, and the theorems.
+pub mod OneCall
+pub mod Accepted
+pub mod Holding
+pub mod OnRun
+pub mod OnPasses
+pub mod States
+pub mod ReadBack
+pub mod Kept
+pub mod RunNumbers

@@ -1,0 +1,152 @@
+-- Writes and pings begin a pass, replies and time-ups move one crate in it, and all keep what holds.
+-- Assumes nothing.
+use Prim.Native.Nat.{ℕ, zero, suc, _<_, _≤_}
+use mathlib.Core.Path.{_≡_, refl, sym, _∙_, subst}
+use mathlib.Core.Bool.{Bool, true, false, not, _&&_, _||_}
+use mathlib.Core.List.{List}
+use native.Mathlib.Omega.{arith}
+use lib.Dec.{ltb, eqb}
+use lib.ListN.{length, set, length-set}
+use lib.Seq.{getD-set-same, getD-set-other}
+use borrow.Author.Tests.{ltb-true, ltb-false, le-ltb, eqb-true, eqb-false}
+use Rattle.refusals.specs.Tables.{Answer, given}
+use Rattle.bounds.specs.Bounds.{boundOf, lowestAbove}
+use Rattle.commands.specs.declared.Command.{Command}
+use Rattle.commands.specs.declared.Command.the-variants.{Write, Ping}
+use Rattle.steps.specs.declared.Heard.{Heard}
+use Rattle.run.specs.Run.{isRunning}
+use Rattle.crate_pass.specs.Crate.{isDone, crateAfter}
+use Rattle.crate_pass.specs.declared.Crate.{Crate}
+use Rattle.four_crates.specs.FourCrates.{noCrate, crateOf, inPass, servedAnswer}
+use Rattle.board.specs.State.{crateAt, withCrates}
+use Rattle.board.specs.Commands.{boardAnswer, blockIn, written, pinged, carriedOut, afterCommand}
+use Rattle.board.specs.SlowControl.{frameAt, replyAnswer, boardReplied}
+use Rattle.board.specs.declared.Board.{Board}
+use Rattle.any_order.specs.Steps.{Event, heard}
+use Rattle.any_order.specs.AnyOrder.{wordOf, mostFrames, beginsPass}
+use Rattle.any_order.proofs.Begun.{Begun, begun-after}
+use Rattle.any_order.proofs.OneCrate.{runs-start}
+use Rattle.any_order.proofs.Served.{Runs, crateStep, step-runs, board-low, board-high}
+use Rattle.reachable.proofs.Accepted.{block-length, block-within}
+use Rattle.reachable.proofs.OneCall.{false≢true}
+use Rattle.reachable.proofs.Holding.{Holds, runs-number}
+use Rattle.reachable.proofs.OnRun.{Counters, counters-of}
+
+-- ---- a pass that has just begun
+
+holds-begun : (β γ : Board) → Holds β → γ .identity ≡ β .identity → Begun γ → Counters (γ .run) → length (γ .block) ≡ 436 → lowestAbove boundOf 0 (γ .block) ≡ 436 → Holds γ
+holds-begun β γ h e b c l w =
+    record {
+      reaches = record {
+        id = rw e (h .reaches .id);
+        firmware = rw e (h .reaches .firmware);
+        timestamp = c .timestamp;
+        on-time = c .on-time;
+        counter = c .counter;
+        length-block = l;
+        within = w;
+        four = b .four;
+        number = λ n m. runs-number (γ .kind) (wordOf γ n) (crateAt γ n) (runs-start γ b n m);
+        apart = rw (b .still);
+      };
+      walks = λ n m d. runs-start γ b n m;
+    }
+
+-- the state after an accepted command that begins a pass
+begun-by : (β : Board) (w : List ℕ) (c : Command) → boardAnswer β w ≡ given c → beginsPass c ≡ true → Begun (carriedOut β (blockIn w) c)
+begun-by β w c e p = subst (λ (a : Answer Command). Begun (afterCommand β (blockIn w) a)) e (begun-after β w c e p)
+
+pub holds-write : (β : Board) (w : List ℕ) → boardAnswer β w ≡ given Write → Holds β → Holds (written β (blockIn w))
+unfolding written
+holds-write β w e h =
+    let c = counters-of β h in
+    holds-begun β (written β (blockIn w)) h refl (begun-by β w Write e refl)
+    (record { timestamp = c .timestamp; on-time = c .on-time; counter = c .counter }) (block-length β w e) (block-within β w e)
+
+pub holds-ping : (β : Board) (w : List ℕ) → boardAnswer β w ≡ given Ping → Holds β → Holds (pinged β)
+unfolding pinged
+holds-ping β w e h =
+    holds-begun β (pinged β) h refl (begun-by β w Ping e refl) (counters-of β h) (h .reaches .length-block) (h .reaches .within)
+
+-- ---- replies and time-ups
+
+all-true : (d₀ d₁ d₂ d₃ : Bool) → (not d₀ || not d₁ || not d₂ || not d₃) ≡ false → (d₀ ≡ true) × (d₁ ≡ true) × (d₂ ≡ true) × (d₃ ≡ true)
+all-true true true true true e = (refl, refl, refl, refl)
+all-true true true true false e = false≢true (sym e)
+all-true true true false d₃ e = false≢true (sym e)
+all-true true false d₂ d₃ e = false≢true (sym e)
+all-true false d₁ d₂ d₃ e = false≢true (sym e)
+
+-- "when all are done the board is idle"
+all-done : (cs : List Crate) → inPass cs ≡ false → (c : ℕ) → c < 4 → isDone (crateOf cs c) ≡ true
+unfolding inPass
+all-done cs e c h = go c h (all-true (isDone (crateOf cs 0)) (isDone (crateOf cs 1)) (isDone (crateOf cs 2)) (isDone (crateOf cs 3)) e)
+  where
+    go : (c : ℕ) → c < 4 → (isDone (crateOf cs 0) ≡ true) × (isDone (crateOf cs 1) ≡ true) × (isDone (crateOf cs 2) ≡ true) × (isDone (crateOf cs 3) ≡ true) → isDone (crateOf cs c) ≡ true
+    go zero h t = t .0
+    go (suc zero) h t = t .1
+    go (suc (suc zero)) h t = t .2
+    go (suc (suc (suc zero))) h t = t .3
+    go (suc (suc (suc (suc c)))) h t = absurd (omega arith)
+
+-- so no run is on while a frame is outstanding
+pass-apart : (running : Bool) (cs : List Crate) (c : ℕ) → c < 4 → isDone (crateOf cs c) ≡ false → (running && inPass cs) ≡ false → running ≡ false
+pass-apart true cs c h d a = false≢true (sym d ∙ all-done cs a c h)
+pass-apart false cs c h d a = refl
+
+-- what holds of the crate k, and of the others as they were, holds of the crates with k for crate c
+at-set : (cs : List Crate) (c : ℕ) (k : Crate) → c < length cs → (P : ℕ → Crate → Type 0) → P c k → (n : ℕ) → P n (crateOf cs n) → P n (crateOf (set cs c k) n)
+at-set cs c k l P new n old = go (eqb c n) refl
+  where
+    go : (t : Bool) → eqb c n ≡ t → P n (crateOf (set cs c k) n)
+    go true e =
+        let s : c ≡ n = eqb-true c n e in
+        subst (λ m. P m (crateOf (set cs c k) m)) s (subst (P c) (sym (getD-set-same cs c k noCrate l)) new)
+    go false e = subst (P n) (sym (getD-set-other cs c n k noCrate (λ q. eqb-false c n e (sym q)))) old
+
+-- the crate c moved on in its pass
+holds-crate : (β : Board) (c : ℕ) (k : Crate) → c < 4 → isDone (crateAt β c) ≡ false → Runs (β .kind) (wordOf β c) k → Holds β → Holds (withCrates β (set (β .crates) c k))
+unfolding withCrates
+holds-crate β c k h d r s =
+    let q = s .reaches in
+    let l : c < length (β .crates) = let f = q .four in omega arith in
+    record {
+      reaches = record {
+        id = q .id;
+        firmware = q .firmware;
+        timestamp = q .timestamp;
+        on-time = q .on-time;
+        counter = q .counter;
+        length-block = q .length-block;
+        within = q .within;
+        four = length-set (β .crates) c k ∙ q .four;
+        number = λ n m. at-set (β .crates) c k l (λ i j. j .sent ≤ mostFrames (β .kind) (wordOf β i)) (runs-number (β .kind) (wordOf β c) k r) n (q .number n m);
+        apart = rw (pass-apart (isRunning (β .run)) (β .crates) c h d (q .apart));
+      };
+      walks = λ n m. at-set (β .crates) c k l (λ i j. isDone j ≡ false → Runs (β .kind) (wordOf β i) j) (λ e. r) n (s .walks n m);
+    }
+
+replied-done : (β : Board) (c : ℕ) (h : Heard) → c < 4 → isDone (crateAt β c) ≡ true → boardReplied β c h ≡ β
+unfolding boardReplied servedAnswer
+replied-done β c h l d = let m : c ≤ 3 = omega arith in rw (le-ltb _ _ m, d)
+
+-- the crate after what is heard on it
+abbrev heardOn : Board → ℕ → Event → Heard
+heardOn β c e = heard (frameAt β c) e
+
+abbrev next : Board → ℕ → Event → Crate
+next β c e = crateAfter (β .kind) (wordOf β c) (crateAt β c) (heardOn β c e)
+
+runs-next : (β : Board) (c : ℕ) (e : Event) → Runs (β .kind) (wordOf β c) (crateAt β c) → Runs (β .kind) (wordOf β c) (next β c e)
+unfolding crateStep frameAt
+runs-next β c e r = step-runs (β .kind) (β .block) c (crateAt β c) e r
+
+pub holds-event : (β : Board) (c : ℕ) (e : Event) → Holds β → Holds (boardReplied β c (heardOn β c e))
+holds-event β c e s = go (ltb c 4) refl (isDone (crateAt β c)) refl
+  where
+    go : (t : Bool) → ltb c 4 ≡ t → (u : Bool) → isDone (crateAt β c) ≡ u → Holds (boardReplied β c (heardOn β c e))
+    go false p u q = rw (board-high β c (heardOn β c e) (ltb-false _ _ p)) s
+    go true p true q = rw (replied-done β c (heardOn β c e) (ltb-true _ _ p) q) s
+    go true p false q =
+        let l : c < 4 = ltb-true _ _ p in
+        subst Holds (sym (board-low β c (heardOn β c e) l)) (holds-crate β c (next β c e) l q (runs-next β c e (s .walks c l q)) s)

@@ -1,0 +1,61 @@
+-- What one call leaves as it was, and what it is that none of some calls gets such an answer.
+-- Assumes nothing.
+use Prim.Native.Nat.{ℕ}
+use mathlib.Core.Path.{_≡_, refl, ap}
+use mathlib.Core.Bool.{Bool, true, false, not, _&&_}
+use mathlib.Core.List.{List, _∷_}
+use native.Mathlib.Omega.{arith}
+use Rattle.refusals.specs.Tables.{Answer, given, refused}
+use Rattle.commands.specs.declared.Command.{Command}
+use Rattle.steps.specs.declared.Heard.{Heard}
+use Rattle.crate_pass.specs.declared.Outcome.{Outcome}
+use Rattle.board.specs.State.{withCrates}
+use Rattle.board.specs.Commands.{boardAnswer}
+use Rattle.board.specs.SlowControl.{replyAnswer, afterReply, boardReplied}
+use Rattle.board.specs.declared.Board.{Board}
+use Rattle.reachable.specs.Calls.{Call, command, clockStep, trigger, reply, timeUp, afterCall, noneGets}
+
+pub false≢true : {A : Type 0} → false ≡ true → A
+false≢true e = absurd (let z : _≡_ {A = ℕ} 0 1 = cc in omega arith)
+
+-- ---- a reply or a time-up changes nothing but the crates
+
+module _ (β : Board) (c : ℕ) (h : Heard) where
+  replied-rest : boardReplied β c h ≡ withCrates β (boardReplied β c h .crates)
+  unfolding boardReplied withCrates
+  replied-rest = go (replyAnswer β c h)
+    where
+      go : (a : Answer Outcome) → afterReply β c h a ≡ withCrates β (afterReply β c h a .crates)
+      go (given o) = refl
+      go (refused n p) = refl
+
+  pub replied-run : boardReplied β c h .run ≡ β .run
+  unfolding withCrates
+  replied-run = ap (λ (γ : Board). γ .run) replied-rest
+
+  pub replied-block : boardReplied β c h .block ≡ β .block
+  unfolding withCrates
+  replied-block = ap (λ (γ : Board). γ .block) replied-rest
+
+-- ---- none of some calls gets such an answer
+
+-- the call is no command that gets such an answer
+abbrev pub Free : (Answer Command → Bool) → Board → Call → Type 0
+Free such β (command words) = such (boardAnswer β words) ≡ false
+Free such β (clockStep ticks) = Unit
+Free such β (trigger fields out) = Unit
+Free such β (reply c bytes) = Unit
+Free such β (timeUp c) = Unit
+
+not-and : (a b : Bool) → (not a && b) ≡ true → (a ≡ false) × (b ≡ true)
+not-and true b e = false≢true e
+not-and false b e = (refl, e)
+
+-- of a first call and others: it does not, and none of the others does
+pub none-first : (such : Answer Command → Bool) (β : Board) (x : Call) (xs : List Call) → noneGets such β (x ∷ xs) ≡ true
+    → Free such β x × (noneGets such (afterCall β x) xs ≡ true)
+none-first such β (command words) xs e = not-and (such (boardAnswer β words)) (noneGets such (afterCall β (command words)) xs) e
+none-first such β (clockStep ticks) xs e = (tt, e)
+none-first such β (trigger fields out) xs e = (tt, e)
+none-first such β (reply c bytes) xs e = (tt, e)
+none-first such β (timeUp c) xs e = (tt, e)

@@ -1,0 +1,69 @@
+-- Calls on a board, one after another: "In each call the board's state goes in and the next state comes out".
+use Prim.Native.Nat.{ℕ}
+use mathlib.Core.Bool.{Bool, true, false, _&&_, not}
+use mathlib.Core.List.{List, [], _∷_}
+use Rattle.refusals.specs.Tables.{Answer, given, refused}
+use Rattle.packets.specs.declared.Fields.{Fields}
+use Rattle.commands.specs.declared.Command.{Command}
+use Rattle.commands.specs.declared.Command.the-variants.{Read, Write, Start, Stop, Ping, CrateReset}
+use Rattle.run.specs.Run.{clockedRun}
+use Rattle.steps.specs.Steps.{heardIn, silence}
+use Rattle.board.specs.State.{withRun}
+use Rattle.board.specs.Commands.{boardAnswer, boardAfter, afterTriggerOn}
+use Rattle.board.specs.SlowControl.{frameAt, boardReplied}
+use Rattle.board.specs.declared.Board.{Board}
+
+-- the calls that take a state to the next, with what the caller gives and lends; the others change no state
+pub data Call : Type 0 where
+  command : List ℕ → Call
+  clockStep : ℕ → Call
+  trigger : Fields → List ℕ → Call
+  reply : ℕ → List ℕ → Call
+  timeUp : ℕ → Call
+
+-- the next state, as the calls promise it
+unfoldable pub afterCall : Board → Call → Board
+afterCall β (command words) = boardAfter β words
+afterCall β (clockStep ticks) = withRun β (clockedRun (β .run) ticks)
+afterCall β (trigger fields out) = afterTriggerOn β fields out
+afterCall β (reply c bytes) = boardReplied β c (heardIn (frameAt β c) bytes)
+afterCall β (timeUp c) = boardReplied β c silence
+
+abbrev pub afterAll : Board → List Call → Board
+afterAll β [] = β
+afterAll β (x ∷ xs) = afterAll (afterCall β x) xs
+
+-- ---- which commands were accepted
+
+abbrev pub isWrite : Answer Command → Bool
+isWrite (given (Read kind)) = false
+isWrite (given Write) = true
+isWrite (given (Start run)) = false
+isWrite (given Stop) = false
+isWrite (given Ping) = false
+isWrite (given (CrateReset c)) = false
+isWrite (refused n p) = false
+
+abbrev pub isStartOrStop : Answer Command → Bool
+isStartOrStop (given (Read kind)) = false
+isStartOrStop (given Write) = false
+isStartOrStop (given (Start run)) = true
+isStartOrStop (given Stop) = true
+isStartOrStop (given Ping) = false
+isStartOrStop (given (CrateReset c)) = false
+isStartOrStop (refused n p) = false
+
+-- whether no call among these is a command that gets such an answer
+abbrev pub noneGets : (Answer Command → Bool) → Board → List Call → Bool
+noneGets such β [] = true
+noneGets such β (command words ∷ xs) = not (such (boardAnswer β words)) && noneGets such (afterCall β (command words)) xs
+noneGets such β (clockStep ticks ∷ xs) = noneGets such (afterCall β (clockStep ticks)) xs
+noneGets such β (trigger fields out ∷ xs) = noneGets such (afterCall β (trigger fields out)) xs
+noneGets such β (reply c bytes ∷ xs) = noneGets such (afterCall β (reply c bytes)) xs
+noneGets such β (timeUp c ∷ xs) = noneGets such (afterCall β (timeUp c)) xs
+
+abbrev pub noWrite : Board → List Call → Bool
+noWrite β xs = noneGets isWrite β xs
+
+abbrev pub noStartOrStop : Board → List Call → Bool
+noStartOrStop β xs = noneGets isStartOrStop β xs

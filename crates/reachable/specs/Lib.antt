@@ -1,0 +1,4 @@
+-- What the theorems say.
+pub mod Calls
+pub mod Reachable
+pub mod Numbering

@@ -1,0 +1,187 @@
+// The run: whether and how long the board takes events, its three counters, and whether the configuration is fresh.
+ghost use mathlib.Core.Path.{_≡_};
+ghost use Prim.Native.Nat.{_<_};
+ghost use Rattle.run.specs.Run.{isRunning, atPowerUp, started, stopped, refreshed, clocked, clockedRun, afterTrigger, refusedWith, Triggers};
+use commands::RunLength;
+use packets::Fields;
+use packets::Packet;
+use packets::in_range;
+use packets::write_packet;
+use refusals::Refusal;
+use refusals::Written;
+
+// Whether events are taken, and how many.
+pub enum Running {
+    Stopped,
+    Endless,
+    Counted(u32),
+}
+
+pub struct Run {
+    pub running: Running,
+    // Set by an accepted write, cleared by a start.
+    pub fresh: bool,
+    pub trigger_counter: u32,
+    // Of 48 bits both, in ticks.
+    pub timestamp: u64,
+    pub on_time: u64,
+}
+
+// What a trigger answers, and the run after it.
+pub struct Triggered {
+    pub answer: Written,
+    pub run: Run,
+}
+
+// A counter of 48 bits, some ticks later.
+fn later(counter: u64, ticks: u32) -> u64
+    ensures { λ r. ⌜ r ≡ clocked counter ticks ⌝ }
+{
+    (counter % 281474976710656 + (ticks as u64)) % 281474976710656
+}
+
+// Nothing fresh, stopped, and all counters zero.
+pub fn run_at_power_up() -> Run
+    ensures { λ r. ⌜ r ≡ atPowerUp ⌝ }
+{
+    Run {
+        running: Running::Stopped,
+        fresh: false,
+        trigger_counter: 0,
+        timestamp: 0,
+        on_time: 0,
+    }
+}
+
+impl Run {
+    pub fn is_running(self) -> bool
+        ensures { λ r. ⌜ r ≡ isRunning self ⌝ }
+    {
+        let running = self.running;
+        match running {
+            Running::Stopped => false,
+            Running::Endless => true,
+            Running::Counted(_) => true,
+        }
+    }
+
+    // A write makes the configuration fresh.
+    pub fn refresh(self) -> Run
+        ensures { λ r. ⌜ r ≡ refreshed self ⌝ }
+    {
+        let running = self.running;
+        Run {
+            running,
+            fresh: true,
+            trigger_counter: self.trigger_counter,
+            timestamp: self.timestamp,
+            on_time: self.on_time,
+        }
+    }
+
+    // A start clears fresh and sets the three counters to zero.
+    pub fn start(self, length: RunLength) -> Run
+        ensures { λ r. ⌜ r ≡ started length ⌝ }
+    {
+        let running = match length {
+            RunLength::Endless => Running::Endless,
+            RunLength::Counted(x) => Running::Counted(x),
+        };
+        Run {
+            running,
+            fresh: false,
+            trigger_counter: 0,
+            timestamp: 0,
+            on_time: 0,
+        }
+    }
+
+    // The end of a run sets the same three to zero.
+    pub fn stop(self) -> Run
+        ensures { λ r. ⌜ r ≡ stopped self ⌝ }
+    {
+        Run {
+            running: Running::Stopped,
+            fresh: self.fresh,
+            trigger_counter: 0,
+            timestamp: 0,
+            on_time: 0,
+        }
+    }
+
+    // A clock step: the timestamp goes on always, the on-time while running.
+    pub fn clock(self, ticks: u32) -> Run
+        ensures { λ r. ⌜ r ≡ clockedRun self ticks ⌝ }
+    {
+        let running = self.running;
+        let on_time = if self.is_running() {
+            later(self.on_time, ticks)
+        } else {
+            self.on_time
+        };
+        Run {
+            running,
+            fresh: self.fresh,
+            trigger_counter: self.trigger_counter,
+            timestamp: later(self.timestamp, ticks),
+            on_time,
+        }
+    }
+
+    // The run after an accepted trigger, which is the last of a counted run or not.
+    fn count(self) -> Run
+        requires { ⌜ self .«trigger_counter» < 4294967295 ⌝ }
+        ensures { λ r. ⌜ r ≡ afterTrigger self ⌝ }
+    {
+        let running = self.running;
+        let number = self.trigger_counter + 1;
+        let last = match running {
+            Running::Stopped => false,
+            Running::Endless => false,
+            Running::Counted(x) => number == x,
+        };
+        if last {
+            return self.stop();
+        }
+        Run {
+            running,
+            fresh: self.fresh,
+            trigger_counter: number,
+            timestamp: self.timestamp,
+            on_time: self.on_time,
+        }
+    }
+
+    // A refused trigger leaves the run as it is.
+    fn refuse(self, r: Refusal) -> Triggered
+        ensures { λ t. ⌜ t ≡ refusedWith self r ⌝ }
+    {
+        Triggered {
+            answer: Written::Refused(r),
+            run: self,
+        }
+    }
+
+    // A trigger: the counter goes up by one and is the number of the packet, which goes into the lent bytes.
+    pub fn trigger(self, fields: Fields, out: &mut [u8]) -> Triggered
+        ensures { λ r. ⌜ Triggers self fields (now (out .entry)) r (now (out .exit)) ⌝ }
+    {
+        if !in_range(fields) {
+            return self.refuse(Refusal::TriggerFieldOutOfRange);
+        }
+        if !self.is_running() {
+            return self.refuse(Refusal::NotRunning);
+        }
+        if self.trigger_counter == 4294967295 {
+            return self.refuse(Refusal::TriggerCounterAtEnd);
+        }
+        let number = self.trigger_counter + 1;
+        match write_packet(Packet { number, fields }, out) {
+            Written::Length(n) => Triggered {
+                answer: Written::Length(n),
+                run: self.count(),
+            },
+            Written::Refused(r) => self.refuse(r),
+        }
+    }
+}

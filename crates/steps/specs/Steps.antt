@@ -1,0 +1,32 @@
+-- 01, Slow control: the frame of a step, and what a reply or a time-up says as the answer to it.
+use Prim.Native.Nat.{ℕ}
+use mathlib.Core.Bool.{false, cond}
+use mathlib.Core.List.{List}
+use lib.Dec.{eqb}
+use Rattle.configuration.specs.Configuration.{boardWords, settingsOf}
+use Rattle.frames.specs.Frames.{frameOf}
+use Rattle.frames.specs.declared.Code.{Code}
+use Rattle.frames.specs.declared.Code.the-variants.{Dacs, Enables, Prescaling, Ping}
+use Rattle.replies.specs.Replies.{goodReply, carriedIn}
+use Rattle.steps.specs.declared.Heard.{Heard}
+
+-- "Code 1 carries the five DACs, 2 the four enables, 3 the prescaling, 4 pings"; there is no other
+abbrev pub codeNumbered : ℕ → Code
+codeNumbered n = cond (eqb n 1) Dacs (cond (eqb n 2) Enables (cond (eqb n 3) Prescaling Ping))
+
+-- the frame of a code to board b of crate c, with the board's settings in the block
+unfoldable pub stepFrame : List ℕ → ℕ → ℕ → ℕ → List ℕ
+stepFrame block c b code = frameOf c b (codeNumbered code) (settingsOf (boardWords block c b))
+
+-- what a reply says as the answer to the frame sent: whether it is good, and the DNA and the CRC error byte that a ping reply carries
+unfoldable pub heardIn : List ℕ → List ℕ → Heard
+heardIn sent reply =
+    record {
+      good = goodReply sent reply;
+      dna = carriedIn reply .dna;
+      «crc_errors» = carriedIn reply .«crc_errors»;
+    }
+
+-- a time-up is no good reply
+abbrev pub silence : Heard
+silence = record { good = false; dna = 0; «crc_errors» = 0 }

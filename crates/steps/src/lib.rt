@@ -1,0 +1,81 @@
+// A step of a pass on the line: the frame that it sends, and what is heard in reply.
+ghost use mathlib.Core.Path.{_≡_};
+ghost use mathlib.Core.List.{[]};
+ghost use Rattle.refusals.specs.Writing.{Wrote};
+ghost use Rattle.steps.specs.Steps.{codeNumbered, stepFrame, heardIn, silence};
+use configuration::board_words;
+use configuration::settings_of;
+use frames::Code;
+use frames::frame;
+use refusals::Refusal;
+use refusals::Written;
+use replies::carried;
+use replies::is_good;
+
+// What a reply or a time-up says as the answer to a frame: whether it is good, and what a ping reply carries.
+pub struct Heard {
+    pub good: bool,
+    pub dna: u64,
+    pub crc_errors: u8,
+}
+
+// The code of a number.
+fn code_numbered(number: u8) -> Code
+    ensures { λ r. ⌜ r ≡ codeNumbered number ⌝ }
+{
+    if number == 1 {
+        Code::Dacs
+    } else if number == 2 {
+        Code::Enables
+    } else if number == 3 {
+        Code::Prescaling
+    } else {
+        Code::Ping
+    }
+}
+
+// The frame that the step of a code's number sends to board b of crate c, with its settings in the block.
+pub fn step_frame(block: &[u16], c: u8, b: u8, code: u8) -> [u8; 28]
+    ensures { λ r. ⌜ r ≡ stepFrame (now (block .entry)) c b code ⌝ }
+{
+    let settings = settings_of(board_words(block, c, b));
+    frame(c, b, code_numbered(code), settings)
+}
+
+// Writes a frame to the front of lent bytes.
+pub fn write_frame(f: [u8; 28], out: &mut [u8]) -> Written
+    ensures { λ r. ⌜ Wrote [] f (now (out .entry)) r (now (out .exit)) ⌝ }
+{
+    if out.len() < 28 {
+        return Written::Refused(Refusal::OutputTooShort);
+    }
+    let mut i = 0;
+    while i < 28 {
+        out[i] = f[i];
+        i += 1;
+    }
+    Written::Length(28)
+}
+
+// What a reply of any length says as the answer to the frame sent.
+pub fn hear(sent: [u8; 28], reply: &[u8]) -> Heard
+    ensures { λ r. ⌜ r ≡ heardIn sent (now (reply .entry)) ⌝ }
+{
+    let told = carried(reply);
+    Heard {
+        good: is_good(sent, reply),
+        dna: told.dna,
+        crc_errors: told.crc_errors,
+    }
+}
+
+// What a time-up says.
+pub fn nothing_heard() -> Heard
+    ensures { λ r. ⌜ r ≡ silence ⌝ }
+{
+    Heard {
+        good: false,
+        dna: 0,
+        crc_errors: 0,
+    }
+}
