@@ -1,9 +1,10 @@
+use Rattle.board.proofs.Obeying.{write-long, after-refusal, after-obeyed}
+use Rattle.board.specs.Commands.{written}
+use Rattle.board.specs.State.{withRun}
 -- `board::Board::carry_out` meets its contract. Assumes nothing.
-use Rattle.board.proofs.Obeying.{write-long, after-answer}
 use denote.Ref.{now}
 use Rattle.refusals.specs.Tables.{given}
-use Rattle.acceptance.specs.Acceptance.{answerOnPaper}
-use mathlib.Core.Path.{sym, ap, _∙_}
+use mathlib.Core.Path.{refl, ap, _∙_}
 use borrow.Author.Needs.{needs}
 use Rattle.board.proofs.Board.carry_out.Statement.{statement}
 use Rattle.board.proofs.Board.carry_out.Tie as tie
@@ -21,7 +22,7 @@ enum-told-3 : tie.Need-enum-told-3
 enum-told-3 c = search needs
 
 block-in-requires : tie.Need-block-in-requires
-block-in-requires c κs = let a = c .before .before .before .before .before .before .before .args in write-long (a .self) (now (a .words)) (sym (c .before .before .before .before .before .before .before .pre) ∙ ap answerOnPaper (c .before .before .before .answer .given .1) ∙ ap given (c .enum-told3 .given .1))
+block-in-requires c κs = let a = c .before .before .before .before .before .before .before .args in write-long (a .self) (now (a .words)) (a .answer) (c .before .before .before .before .before .before .before .pre) _ (c .before .before .before .answer .given .1) (c .enum-told3 .given .1)
 
 write-requires : tie.Need-write-requires
 write-requires c κs = search needs
@@ -54,25 +55,25 @@ enum-told-6 : tie.Need-enum-told-6
 enum-told-6 c = search needs
 
 returns : tie.Need-returns
-returns c = let a = c .before .before .before .before .args in after-answer (a .self) (now (a .words)) (a .answer) (c .before .before .before .before .pre) _ (rw (c .enum-told .given .1))
+returns c = let a = c .before .before .before .before .args in after-refusal (a .self) (now (a .words)) (a .answer) (c .before .before .before .before .pre) _ (c .enum-told .given .1)
 
 returns-2 : tie.Need-returns-2
-returns-2 c = let a = c .before .before .before .before .before .before .before .args in after-answer (a .self) (now (a .words)) (a .answer) (c .before .before .before .before .before .before .before .pre) _ (rw (c .before .before .before .answer .given .1, c .enum-told2 .given .1))
+returns-2 c = let a = c .before .before .before .before .before .before .before .args in after-obeyed (a .self) (now (a .words)) (a .answer) (c .before .before .before .before .before .before .before .pre) _ _ (c .before .before .before .answer .given .1) (c .enum-told2 .given .1) _ (refl)
 
 returns-3 : tie.Need-returns-3
-returns-3 c = let a = c .before .before .before .before .before .before .before .before .before .args in after-answer (a .self) (now (a .words)) (a .answer) (c .before .before .before .before .before .before .before .before .before .pre) _ (rw (c .before .before .before .before .before .answer .given .1, c .before .before .enum-told3 .given .1, c .write .ensures, c .before .block-in .ensures))
+returns-3 c = let a = c .before .before .before .before .before .before .before .before .before .args in after-obeyed (a .self) (now (a .words)) (a .answer) (c .before .before .before .before .before .before .before .before .before .pre) _ _ (c .before .before .before .before .before .answer .given .1) (c .before .before .enum-told3 .given .1) _ (c .write .ensures ∙ ap (written (a .self)) (c .before .block-in .ensures))
 
 returns-4 : tie.Need-returns-4
-returns-4 c = let a = c .before .before .before .before .before .before .before .before .before .before .args in after-answer (a .self) (now (a .words)) (a .answer) (c .before .before .before .before .before .before .before .before .before .before .pre) _ (rw (c .before .before .before .before .before .before .answer .given .1, c .before .before .before .c .given .1, c .with-run .ensures, c .before .start .ensures))
+returns-4 c = let a = c .before .before .before .before .before .before .before .before .before .before .args in after-obeyed (a .self) (now (a .words)) (a .answer) (c .before .before .before .before .before .before .before .before .before .before .pre) _ _ (c .before .before .before .before .before .before .answer .given .1) (c .before .before .before .c .given .1) _ (c .with-run .ensures ∙ ap (withRun (a .self)) (c .before .start .ensures))
 
 returns-5 : tie.Need-returns-5
-returns-5 c = let a = c .before .before .before .before .before .before .before .before .before .args in after-answer (a .self) (now (a .words)) (a .answer) (c .before .before .before .before .before .before .before .before .before .pre) _ (rw (c .before .before .before .before .before .answer .given .1, c .before .before .enum-told4 .given .1, c .with-run2 .ensures, c .before .stop .ensures))
+returns-5 c = let a = c .before .before .before .before .before .before .before .before .before .args in after-obeyed (a .self) (now (a .words)) (a .answer) (c .before .before .before .before .before .before .before .before .before .pre) _ _ (c .before .before .before .before .before .answer .given .1) (c .before .before .enum-told4 .given .1) _ (c .with-run2 .ensures ∙ ap (withRun (a .self)) (c .before .stop .ensures))
 
 returns-6 : tie.Need-returns-6
-returns-6 c = let a = c .before .before .before .before .before .before .before .before .args in after-answer (a .self) (now (a .words)) (a .answer) (c .before .before .before .before .before .before .before .before .pre) _ (rw (c .before .before .before .before .answer .given .1, c .before .enum-told5 .given .1, c .ping .ensures))
+returns-6 c = let a = c .before .before .before .before .before .before .before .before .args in after-obeyed (a .self) (now (a .words)) (a .answer) (c .before .before .before .before .before .before .before .before .pre) _ _ (c .before .before .before .before .answer .given .1) (c .before .enum-told5 .given .1) _ (c .ping .ensures)
 
 returns-7 : tie.Need-returns-7
-returns-7 c = let a = c .before .before .before .before .before .before .before .args in after-answer (a .self) (now (a .words)) (a .answer) (c .before .before .before .before .before .before .before .pre) _ (rw (c .before .before .before .answer .given .1, c .enum-told6 .given .1))
+returns-7 c = let a = c .before .before .before .before .before .before .before .args in after-obeyed (a .self) (now (a .words)) (a .answer) (c .before .before .before .before .before .before .before .pre) _ _ (c .before .before .before .answer .given .1) (c .enum-told6 .given .1) _ (refl)
 
 pub carry-out-spec : {M : Type 1} → statement M
 carry-out-spec =

@@ -1,5 +1,5 @@
+use Rattle.board.proofs.Obeying.{pinged-as}
 -- `board::Board::ping` meets its contract. Assumes nothing.
-use Rattle.board.specs.Commands.{pinged}
 use borrow.Author.Needs.{needs}
 use Rattle.board.proofs.Board.ping.Statement.{statement}
 use Rattle.board.proofs.Board.ping.Tie as tie
@@ -11,8 +11,7 @@ begin-all-requires : tie.Need-begin-all-requires
 begin-all-requires c κs = search needs
 
 returns : tie.Need-returns
-unfolding pinged
-returns c = rw (c .begin-all .ensures, c .before .active-words .ensures)
+returns c = pinged-as (c .before .before .before .before .before .before .args .self) _ _ (c .before .active-words .ensures) (c .begin-all .ensures)
 
 pub ping-spec : {M : Type 1} → statement M
 ping-spec = tie.close (tie.spec active-words-requires begin-all-requires returns)

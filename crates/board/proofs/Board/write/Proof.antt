@@ -1,5 +1,5 @@
+use Rattle.board.proofs.Obeying.{written-as}
 -- `board::Board::write` meets its contract. Assumes nothing.
-use Rattle.board.specs.Commands.{written}
 use borrow.Author.Needs.{needs}
 use Rattle.board.proofs.Board.write.Statement.{statement}
 use Rattle.board.proofs.Board.write.Tie as tie
@@ -14,8 +14,7 @@ begin-all-requires : tie.Need-begin-all-requires
 begin-all-requires c κs = search needs
 
 returns : tie.Need-returns
-unfolding written
-returns c = rw (c .begin-all .ensures, c .before .active-words .ensures, c .before .before .refresh .ensures)
+returns c = written-as (c .before .before .before .before .before .before .before .args .self) _ _ _ _ (c .before .before .refresh .ensures) (c .before .active-words .ensures) (c .begin-all .ensures)
 
 pub write-spec : {M : Type 1} → statement M
 write-spec = tie.close (tie.spec refresh-requires active-words-requires begin-all-requires returns)
