@@ -19,7 +19,7 @@ use Rattle.board.specs.State.{crateAt}
 use Rattle.board.specs.SlowControl.{fetchRules, frameAt}
 use Rattle.board.specs.declared.Board.{Board}
 use Rattle.any_order.specs.Steps.{step}
-use Rattle.any_order.specs.AnyOrder.{where-given, fetched, lineOf, stepOf}
+use Rattle.any_order.specs.AnyOrder.{framesGiven, fetched, lineOf, stepOf}
 
 -- ---- the frame fetched on a crate is that of its outstanding step
 
@@ -28,7 +28,7 @@ unfolding fetched frameAt stepOf
 fetched-step β c h = let l : c ≤ 3 = omega arith in rw (le-ltb _ _ l) (go (ltb (crateAt β c .board) 10) refl)
   where
     go : (t : Bool) → ltb (crateAt β c .board) 10 ≡ t
-        → where-given (cond (leb 10 (crateAt β c .board)) (refused 12 0) (given (stepFrame (β .block) c (crateAt β c .board) (crateAt β c .code))))
+        → framesGiven (cond (leb 10 (crateAt β c .board)) (refused 12 0) (given (stepFrame (β .block) c (crateAt β c .board) (crateAt β c .code))))
         ≡ map (lineOf β c) (cond t (step (crateAt β c .board) (crateAt β c .code) ∷ []) [])
     go true e = rw (lt-leb _ _ (ltb-true _ _ e))
     go false e = rw (le-leb _ _ (ltb-false _ _ e))
@@ -39,11 +39,11 @@ length-frame : (β : Board) (c : ℕ) → length (frameAt β c) ≡ 28
 unfolding frameAt stepFrame
 length-frame β c = frame-length _ _ _
 
-clear-fetched : (rs : List Rule) (f : List ℕ) → where-given (lowest rs f) ≡ f ∷ [] → Clear rs
+clear-fetched : (rs : List Rule) (f : List ℕ) → framesGiven (lowest rs f) ≡ f ∷ [] → Clear rs
 clear-fetched [] f e = tt
 clear-fetched (r ∷ rs) f e = go (clear-fetched rs f) (r .applies) refl
   where
-    go : (where-given (lowest rs f) ≡ f ∷ [] → Clear rs) → (t : Bool) → r .applies ≡ t → Clear (r ∷ rs)
+    go : (framesGiven (lowest rs f) ≡ f ∷ [] → Clear rs) → (t : Bool) → r .applies ≡ t → Clear (r ∷ rs)
     go next true p = absurd (let n : 0 ≡ 1 = ap length (simp p at e) in omega arith)
     go next false p = (p, next (simp p at e))
 
@@ -59,7 +59,7 @@ given-fetched : (β : Board) (c n : ℕ) (out : List ℕ) → writing (fetchRule
 unfolding fetched writing
 given-fetched β c n out e =
     let clear : Clear (writingRules (fetchRules β c) (frameAt β c) out) = given-clear (writingRules (fetchRules β c) (frameAt β c) out) (length (frameAt β c)) n e in
-    ap where-given (clear-given (fetchRules β c) (frameAt β c) (clear-front (fetchRules β c) (rule 19 (ltb (length out) (length (frameAt β c))) ∷ []) clear))
+    ap framesGiven (clear-given (fetchRules β c) (frameAt β c) (clear-front (fetchRules β c) (rule 19 (ltb (length out) (length (frameAt β c))) ∷ []) clear))
 
 fetched-given : (β : Board) (c : ℕ) (out : List ℕ) → 28 ≤ length out → fetched β c ≡ frameAt β c ∷ [] → writing (fetchRules β c) (frameAt β c) out ≡ given 28
 unfolding fetched

@@ -44,12 +44,12 @@ abbrev pub afterItem : Board → Item → Board
 afterItem β x = boardReplied β (x .0) (heardOn β x)
 
 -- the frame outstanding on crate c, where there is one: what `outstanding_frame` promises to give
-abbrev pub where-given : Answer (List ℕ) → List (List ℕ)
-where-given (given f) = f ∷ []
-where-given (refused n p) = []
+abbrev pub framesGiven : Answer (List ℕ) → List (List ℕ)
+framesGiven (given f) = f ∷ []
+framesGiven (refused n p) = []
 
 unfoldable pub fetched : Board → ℕ → List (List ℕ)
-fetched β c = where-given (lowest (fetchRules β c) (frameAt β c))
+fetched β c = framesGiven (lowest (fetchRules β c) (frameAt β c))
 
 -- "after each accepted reply or time-up for it the one then outstanding, where there is one"
 abbrev pub sentAfter : Answer Outcome → List (List ℕ) → List (List ℕ)

@@ -2,3 +2,6 @@
 pub mod Obeying
 pub mod Serving
 pub mod Sending
+pub mod Tables
+pub mod Answers
+pub mod NothingLost

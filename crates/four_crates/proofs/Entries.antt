@@ -1,12 +1,10 @@
 -- The entries of the FTU list, one board at a time.
 -- Assumes nothing.
 use Prim.Native.Nat.{ℕ, zero, suc, _+_, _<_}
-use mathlib.Core.Path.{_≡_, refl, sym, ap, _∙_}
-use mathlib.Core.List.{List, _++_}
-use native.Mathlib.Nat.{le-of-lt}
+use mathlib.Core.Path.{_≡_, refl, ap, _∙_}
+use mathlib.Core.List.{List}
 use native.Mathlib.Omega.{arith}
-use lib.ListN.{length, take, drop, set, getD}
-use lib.Seq.{drop-cons, take-suc, set-at, length-take-le, append-snoc}
+use lib.ListN.{length, getD}
 use Rattle.crate_pass.specs.Crate.{silent}
 use Rattle.crate_pass.specs.declared.Crate.{Crate}
 use Rattle.four_crates.specs.FourCrates.{entryAt, entriesFrom, entriesOf}
@@ -28,10 +26,3 @@ entry-of cs k h = entry-from cs 40 0 k h ∙ ap (entryAt cs) (let e : 0 + k ≡ 
 pub forty : (cs : List Crate) → length (entriesOf cs) ≡ 40
 unfolding entriesOf
 forty cs = length-entries cs 40 0
-
--- one turn of a loop that stores a list to the front of another
-pub store-more : {A : Type 0} (none : A) (s d : List A) (i : ℕ) → i < length s → i < length d → set (take i s ++ drop i d) i (getD s i none) ≡ take (suc i) s ++ drop (suc i) d
-store-more {A} none s d i hs hd =
-    ap (λ (l : List A). set (take i s ++ l) i (getD s i none)) (drop-cons d i none hd)
-    ∙ set-at (take i s) (getD d i none) (drop (suc i) d) (getD s i none) i (length-take-le i s (le-of-lt hs))
-    ∙ sym (ap (λ (l : List A). l ++ drop (suc i) d) (take-suc s i none hs) ∙ append-snoc (take i s) (getD s i none) (drop (suc i) d))

@@ -15,10 +15,11 @@ use Rattle.commands.specs.declared.Command.{Command}
 use Rattle.commands.specs.declared.Command.the-variants.{Read, Write, Start, Stop, Ping, CrateReset}
 use Rattle.commands.specs.declared.RunLength.{RunLength}
 use Rattle.commands.specs.declared.RunLength.the-variants.{Endless, Counted}
-use Rattle.run.specs.Run.{isRunning, takesEvents, runningFor, clockedRun, triggerNumber, triggerAnswer, isLast, stopped, counted, afterTrigger, afterAnswer}
+use Rattle.run.specs.Run.{isRunning, takesEvents, runningFor, clockedRun, triggerNumber, triggerAnswer, isLast, counted, afterTrigger, afterAnswer}
 use Rattle.run.specs.declared.Running.{Running}
 use Rattle.run.specs.declared.Running.the-variants.{Stopped}
 use Rattle.run.specs.declared.Run.{Run}
+use Rattle.run.proofs.Laws.{after-last, after-another}
 use Rattle.board.specs.State.{withRun}
 use Rattle.board.specs.Commands.{boardAnswer, blockIn, written, pinged, afterCommand, boardAfter}
 use Rattle.board.specs.declared.Board.{Board}
@@ -56,27 +57,19 @@ kept l m r s p q (over e h) = over (p ∙ e) h
 
 -- ---- a trigger that is accepted
 
-last-stops : (r : Run) → isLast (r .running) (triggerNumber r) ≡ true → afterTrigger r ≡ stopped r
-unfolding afterTrigger
-last-stops r e = rw e
-
-other-counts : (r : Run) → isLast (r .running) (triggerNumber r) ≡ false → afterTrigger r ≡ counted r
-unfolding afterTrigger
-other-counts r e = rw e
-
 -- the counted run's Xth ends it; before, the run goes on with one more
 going-more : (l : RunLength) (m : ℕ) (r : Run) → r .running ≡ runningFor l → r .«trigger_counter» ≡ m → More l m → Going l (suc m) (afterTrigger r)
 going-more Endless m r e c h =
-    subst (Going Endless (suc m)) (sym (other-counts r (ap (λ (q : Running). isLast q (triggerNumber r)) e))) (on e (omega arith) tt)
+    subst (Going Endless (suc m)) (sym (after-another r (ap (λ (q : Running). isLast q (triggerNumber r)) e))) (on e (omega arith) tt)
 going-more (Counted x) m r e c h = go (eqb (triggerNumber r) x) refl
   where
     go : (t : Bool) → eqb (triggerNumber r) x ≡ t → Going (Counted x) (suc m) (afterTrigger r)
     go true p =
         let n = eqb-true (triggerNumber r) x p in
-        subst (Going (Counted x) (suc m)) (sym (last-stops r (ap (λ (q : Running). isLast q (triggerNumber r)) e ∙ p))) (over refl (omega arith))
+        subst (Going (Counted x) (suc m)) (sym (after-last r (ap (λ (q : Running). isLast q (triggerNumber r)) e ∙ p))) (over refl (omega arith))
     go false p =
         let n = eqb-false (triggerNumber r) x p in
-        subst (Going (Counted x) (suc m)) (sym (other-counts r (ap (λ (q : Running). isLast q (triggerNumber r)) e ∙ p))) (on e (omega arith) (omega arith))
+        subst (Going (Counted x) (suc m)) (sym (after-another r (ap (λ (q : Running). isLast q (triggerNumber r)) e ∙ p))) (on e (omega arith) (omega arith))
 
 -- ---- one call
 

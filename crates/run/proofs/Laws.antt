@@ -4,16 +4,13 @@ use Prim.Native.Nat.{ℕ}
 use mathlib.Core.Path.{_≡_, refl, sym, ap, _∙_}
 use mathlib.Core.Bool.{Bool, true, false, not, cond}
 use mathlib.Core.List.{List}
-use lib.ListN.{length}
 use borrow.Author.Tests.{eq-eqb, ne-eqb}
-use Rattle.refusals.specs.Tables.{Answer, Rule}
-use Rattle.refusals.specs.Writing.{writing, writtenOnPaper, laid, Wrote}
+use Rattle.refusals.specs.Writing.{writtenOnPaper, Wrote}
 use Rattle.refusals.specs.declared.Refusal.{Refusal}
 use Rattle.refusals.specs.declared.Refusal.the-variants.{TriggerFieldOutOfRange, NotRunning, TriggerCounterAtEnd}
 use Rattle.refusals.specs.declared.Written.{Written}
 use Rattle.refusals.specs.declared.Written.the-variants.{Length, Refused}
-use Rattle.refusals.proofs.Tables.{Clear, clear-more}
-use Rattle.refusals.proofs.Writing.{wrote-refused}
+use Rattle.refusals.proofs.Writing.{wrote-refused, wrote-alike}
 use Rattle.packets.specs.Packets.{inRange, packetBytes, writeRules}
 use Rattle.packets.specs.declared.Fields.{Fields}
 use Rattle.run.specs.Run.{isRunning, stopped, clocked, clockedRun, triggerNumber, triggerRules, isLast, counted, afterTrigger, refusedWith, afterAnswer, Triggers}
@@ -51,13 +48,6 @@ module _ (r : Run) where
       ∙ sym (after-another h)
 
 -- ---- a trigger
-
--- where neither of two tables has a row that applies, a writer under the one is a writer under the other
-wrote-alike : (these those : List Rule) (due out : List ℕ) (w : Written) (after : List ℕ) → Clear these → Clear those → Wrote these due out w after → Wrote those due out w after
-unfolding writing
-wrote-alike these those due out w after c d h =
-    let q : writing these due out ≡ writing those due out = clear-more these _ (length due) c ∙ sym (clear-more those _ (length due) d) in
-    record { answer = h .answer ∙ q; output = h .output ∙ ap (λ (a : Answer ℕ). laid a due out) q }
 
 module _ (r : Run) (f : Fields) (out : List ℕ) where
   -- the run follows the answer

@@ -5,10 +5,11 @@ use mathlib.Core.List.{List, _++_, append-nil}
 use native.Mathlib.Numerals.{add-one}
 use lib.ListN.{length, take, drop, set, replicate, length-set}
 use lib.Seq.{take-all}
+use Rattle.words.proofs.Laws.{store-more}
 use Rattle.ftu_list.specs.declared.Entry.{Entry}
 use Rattle.crate_pass.specs.Crate.{silent}
 use Rattle.four_crates.specs.FourCrates.{entriesOf}
-use Rattle.four_crates.proofs.Entries.{entry-of, forty, store-more}
+use Rattle.four_crates.proofs.Entries.{entry-of, forty}
 use borrow.Author.Needs.{needs}
 use native.Mathlib.Omega.{arith}
 use Rattle.four_crates.proofs.entries_of.Statement.{statement}

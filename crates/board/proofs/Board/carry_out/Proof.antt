@@ -1,7 +1,7 @@
+-- `board::Board::carry_out` meets its contract. Assumes nothing.
 use Rattle.board.proofs.Obeying.{write-long, after-refusal, after-obeyed}
 use Rattle.board.specs.Commands.{written}
 use Rattle.board.specs.State.{withRun}
--- `board::Board::carry_out` meets its contract. Assumes nothing.
 use denote.Ref.{now}
 use Rattle.refusals.specs.Tables.{given}
 use mathlib.Core.Path.{refl, ap, _∙_}

@@ -1,5 +1,5 @@
-use Rattle.board.proofs.Obeying.{pinged-as}
 -- `board::Board::ping` meets its contract. Assumes nothing.
+use Rattle.board.proofs.Obeying.{pinged-as}
 use borrow.Author.Needs.{needs}
 use Rattle.board.proofs.Board.ping.Statement.{statement}
 use Rattle.board.proofs.Board.ping.Tie as tie

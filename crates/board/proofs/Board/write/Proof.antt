@@ -1,5 +1,5 @@
-use Rattle.board.proofs.Obeying.{written-as}
 -- `board::Board::write` meets its contract. Assumes nothing.
+use Rattle.board.proofs.Obeying.{written-as}
 use borrow.Author.Needs.{needs}
 use Rattle.board.proofs.Board.write.Statement.{statement}
 use Rattle.board.proofs.Board.write.Tie as tie

@@ -1,0 +1,84 @@
+-- Every answer of a board is a result or one of the paper's numbers: for each call, from which to which.
+-- Assumes nothing.
+use Prim.Native.Nat.{ℕ, _≤_}
+use mathlib.Core.Path.{_≡_}
+use mathlib.Core.Bool.{Bool, true, false, _&&_}
+use mathlib.Core.Logic.{inl, inr}
+use mathlib.Core.List.{List, [], _∷_}
+use native.Mathlib.Omega.{arith}
+use lib.Dec.{T, leb, leb→le}
+use Rattle.refusals.specs.Tables.{Answer, refused, Rule}
+use Rattle.refusals.specs.Writing.{writing}
+use Rattle.refusals.proofs.Tables.{Applies, Exactly}
+use Rattle.packets.specs.declared.Fields.{Fields}
+use Rattle.bounds.specs.Bounds.{lentRules}
+use Rattle.command_reader.specs.Reading.{readRules}
+use Rattle.run.specs.Run.{triggerRules, triggerAnswer}
+use Rattle.blocks.specs.Blocks.{measurementRules}
+use Rattle.steps.specs.declared.Heard.{Heard}
+use Rattle.board.specs.State.{powerUpAnswer}
+use Rattle.board.specs.Commands.{boardAnswer}
+use Rattle.board.specs.SlowControl.{frameAt, fetchRules, replyAnswer, sentAnswer}
+use Rattle.board.specs.SentOut.{staticDue, dynamicDue, listRules, listDue, failureRules, failureDue}
+use Rattle.board.specs.declared.Board.{Board}
+use Rattle.board.proofs.Tables.{power-up-exactly, command-exactly, trigger-exactly, reply-exactly, frame-exactly, sent-exactly, static-exactly, dynamic-exactly, list-exactly, failure-exactly}
+
+-- each number of a table is from a to b
+abbrev between : ℕ → ℕ → List Rule → Bool
+between a b [] = true
+between a b (r ∷ rs) = leb a (r .number) && leb (r .number) b && between a b rs
+
+both : (s t : Bool) → T (s && t) → T s × T t
+both true t h = (tt, h)
+both false t h = absurd h
+
+pub applies-between : (a b : ℕ) (rs : List Rule) → T (between a b rs) → (n p : ℕ) → Applies rs n p → (a ≤ n) × (n ≤ b)
+applies-between a b (r ∷ rs) t n p h =
+    let x = both (leb a (r .number) && leb (r .number) b) (between a b rs) t in
+    let y = both (leb a (r .number)) (leb (r .number) b) (x .0) in
+    go (leb→le a (r .number) (y .0)) (leb→le (r .number) b (y .1)) (applies-between a b rs (x .1) n p) h
+  where
+    go : a ≤ r .number → r .number ≤ b → (Applies rs n p → (a ≤ n) × (n ≤ b)) → Applies (r ∷ rs) n p → (a ≤ n) × (n ≤ b)
+    go l m f (inl k) = let e : r .number ≡ n = k .1 in (omega arith, omega arith)
+    go l m f (inr k) = f k
+
+-- an answer is a result, or refuses with a number from a to b
+abbrev pub RefusesFrom : {A : Type 0} → ℕ → ℕ → Answer A → Type 0
+RefusesFrom a b answer = (n p : ℕ) → answer ≡ refused n p → (a ≤ n) × (n ≤ b)
+
+refuses-from : {A : Type 0} (a b : ℕ) {rules : List Rule} {x : A} {answer : Answer A} → Exactly rules x answer → T (between a b rules) → RefusesFrom a b answer
+refuses-from a b {rules} e t n p q = applies-between a b rules t n p (e .refused-only n p q .0)
+
+pub power-up-numbers : (id : ℕ) → RefusesFrom 20 20 (powerUpAnswer id)
+power-up-numbers id = refuses-from 20 20 (power-up-exactly id) tt
+
+module _ (β : Board) where
+  pub command-numbers : (w : List ℕ) → RefusesFrom 1 10 (boardAnswer β w)
+  unfolding readRules
+  command-numbers w = refuses-from 1 10 (command-exactly β w) tt
+
+  pub trigger-numbers : (f : Fields) (out : List ℕ) → RefusesFrom 15 19 (triggerAnswer (β .run) f out)
+  unfolding triggerRules
+  trigger-numbers f out = refuses-from 15 19 (trigger-exactly β f out) tt
+
+  pub reply-numbers : (i : ℕ) (h : Heard) → RefusesFrom 11 12 (replyAnswer β i h)
+  reply-numbers i h = refuses-from 11 12 (reply-exactly β i h) tt
+
+  pub frame-numbers : (i : ℕ) (out : List ℕ) → RefusesFrom 11 19 (writing (fetchRules β i) (frameAt β i) out)
+  frame-numbers i out = refuses-from 11 19 (frame-exactly β i out) tt
+
+  pub sent-numbers : (i : ℕ) → RefusesFrom 11 11 (sentAnswer β i)
+  sent-numbers i = refuses-from 11 11 (sent-exactly β i) tt
+
+  pub static-numbers : (out : List ℕ) → RefusesFrom 19 19 (writing [] (staticDue β) out)
+  static-numbers out = refuses-from 19 19 (static-exactly β out) tt
+
+  pub dynamic-numbers : (m out : List ℕ) → RefusesFrom 6 19 (writing (measurementRules m) (dynamicDue β m) out)
+  unfolding lentRules
+  dynamic-numbers m out = refuses-from 6 19 (dynamic-exactly β m out) tt
+
+  pub list-numbers : (out : List ℕ) → RefusesFrom 9 19 (writing (listRules β) (listDue β) out)
+  list-numbers out = refuses-from 9 19 (list-exactly β out) tt
+
+  pub failure-numbers : (ordinal : ℕ) (out : List ℕ) → RefusesFrom 9 19 (writing (failureRules β ordinal) (failureDue β ordinal) out)
+  failure-numbers ordinal out = refuses-from 9 19 (failure-exactly β ordinal out) tt

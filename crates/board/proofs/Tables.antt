@@ -1,0 +1,72 @@
+-- "Exactly when", of every call on a board: the result is given where no row of its table applies, and otherwise the lowest number whose row does.
+-- Assumes nothing.
+use Prim.Native.Nat.{ℕ}
+use mathlib.Core.List.{List, [], _∷_}
+use lib.ListN.{length}
+use Rattle.refusals.specs.Tables.{Rule}
+use Rattle.refusals.specs.Writing.{writingRules, writing}
+use Rattle.refusals.proofs.Tables.{Exactly, exactly}
+use Rattle.refusals.proofs.Writing.{writing-exactly}
+use Rattle.packets.specs.Packets.{packetBytes}
+use Rattle.packets.specs.declared.Fields.{Fields}
+use Rattle.command_reader.specs.Reading.{commandIn}
+use Rattle.acceptance.specs.Acceptance.{commandRules}
+use Rattle.acceptance.proofs.Deciding as deciding
+use Rattle.run.specs.Run.{triggerNumber, triggerRules}
+use Rattle.run.proofs.Tables as run
+use Rattle.blocks.specs.Blocks.{measurementRules}
+use Rattle.blocks.proofs.Laws as blocks
+use Rattle.steps.specs.declared.Heard.{Heard}
+use Rattle.four_crates.specs.FourCrates.{noSuchCrate}
+use Rattle.four_crates.proofs.OneCrate as crates
+use Rattle.board.specs.State.{crateAt, situationOf, powerUpRules, powerUpAnswer}
+use Rattle.board.specs.Commands.{boardAnswer}
+use Rattle.board.specs.SlowControl.{frameAt, fetchRules, movedAt, replyAnswer, sentAnswer}
+use Rattle.board.specs.SentOut.{headerOf, staticDue, dynamicDue, listRules, listDue, failureRules, failureDue}
+use Rattle.board.specs.declared.Board.{Board}
+
+-- a writer of `due` with its own rows, then 19: it answers how much it wrote
+abbrev pub WritesExactly : List Rule → List ℕ → List ℕ → Type 0
+WritesExactly rules due out = Exactly (writingRules rules due out) (length due) (writing rules due out)
+
+-- power-up: 20
+pub power-up-exactly : (id : ℕ) → Exactly (powerUpRules id) tt (powerUpAnswer id)
+unfolding powerUpAnswer
+power-up-exactly id = exactly (powerUpRules id) tt tt
+
+module _ (β : Board) where
+  -- a command: 1 to 10
+  pub command-exactly : (w : List ℕ) → Exactly (commandRules w (situationOf β)) (commandIn w) (boardAnswer β w)
+  command-exactly w = deciding.command-exactly w (situationOf β)
+
+  -- a trigger: 15, 16, 17, 19
+  pub trigger-exactly : (f : Fields) (out : List ℕ) → WritesExactly (triggerRules (β .run) f) (packetBytes (triggerNumber (β .run)) f) out
+  trigger-exactly f out = run.trigger-exactly (β .run) f out
+
+  -- a reply or a time-up: 11, 12
+  pub reply-exactly : (i : ℕ) (h : Heard) → Exactly (fetchRules β i) (movedAt β i h .outcome) (replyAnswer β i h)
+  reply-exactly i h = crates.served-exactly (β .crates) i (β .kind) _ h
+
+  -- the outstanding frame: 11, 12, 19
+  pub frame-exactly : (i : ℕ) (out : List ℕ) → WritesExactly (fetchRules β i) (frameAt β i) out
+  frame-exactly i out = writing-exactly (fetchRules β i) (frameAt β i) out tt
+
+  -- the number of frames sent: 11
+  pub sent-exactly : (i : ℕ) → Exactly (noSuchCrate i ∷ []) (crateAt β i .sent) (sentAnswer β i)
+  sent-exactly i = crates.sent-exactly (β .crates) i
+
+  -- the static block: 19
+  pub static-exactly : (out : List ℕ) → WritesExactly [] (staticDue β) out
+  static-exactly out = blocks.block-exactly (staticDue β) out
+
+  -- the dynamic block: 6, 8, 19
+  pub dynamic-exactly : (m out : List ℕ) → WritesExactly (measurementRules m) (dynamicDue β m) out
+  dynamic-exactly m out = blocks.dynamic-exactly (headerOf β) (β .run .«on_time») m out
+
+  -- the FTU list: 9, 19
+  pub list-exactly : (out : List ℕ) → WritesExactly (listRules β) (listDue β) out
+  list-exactly out = writing-exactly (listRules β) (listDue β) out tt
+
+  -- a failure message: 9, 18, 19
+  pub failure-exactly : (ordinal : ℕ) (out : List ℕ) → WritesExactly (failureRules β ordinal) (failureDue β ordinal) out
+  failure-exactly ordinal out = writing-exactly (failureRules β ordinal) (failureDue β ordinal) out tt
