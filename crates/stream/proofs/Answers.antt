@@ -105,6 +105,20 @@ answers-most (suc m) β (b ∷ bs) =
     (ten-taken β (b ∷ bs))
     (answers-most m _ (bytesAfter (b ∷ bs)))
 
+-- nor does it matter how many answers are allowed, from as many as there are bytes on
+pub answers-any : (m n : ℕ) (β : Board) (bs : List ℕ) → length bs ≤ m → length bs ≤ n → answersTo m β bs ≡ answersTo n β bs
+unfolding answersTo
+answers-any zero n β bs h g = sym (answers-none n β bs (omega arith))
+answers-any (suc m) zero β bs h g = answers-none (suc m) β bs (omega arith)
+answers-any (suc m) (suc n) β [] h g = refl
+answers-any (suc m) (suc n) β (b ∷ bs) h g =
+    go (stops (numberFor β (b ∷ bs))) refl (answers-any m n (ranOut (boardAfter β (wordsIn (b ∷ bs)))) (bytesAfter (b ∷ bs)))
+  where
+    go : {l k : List ℕ} (t : Bool) → stops (numberFor β (b ∷ bs)) ≡ t → (length (bytesAfter (b ∷ bs)) ≤ m → length (bytesAfter (b ∷ bs)) ≤ n → l ≡ k)
+        → numberFor β (b ∷ bs) ∷ cond t [] l ≡ numberFor β (b ∷ bs) ∷ cond t [] k
+    go true s f = refl
+    go false s f = let d = ten-taken β (b ∷ bs) s in ap (λ (l : List ℕ). numberFor β (b ∷ bs) ∷ l) (f (omega arith) (omega arith))
+
 -- a list whose part from n on is known
 module _ (l : List ℕ) (n x : ℕ) (rest : List ℕ) (e : drop n l ≡ x ∷ rest) where
   part-longer : n < length l
@@ -136,16 +150,16 @@ stored-padded first n l answers e q =
 -- ---- the loop
 
 -- so many commands in bytes are answered, and so many words are behind them
-pub record Listed (bytes : List ℕ) (count at : ℕ) (β : Board) (answers : List ℕ) : Type 0 where
+pub record Answered (bytes : List ℕ) (count at : ℕ) (β : Board) (answers : List ℕ) : Type 0 where
   pub five : 5 * count ≤ at
   pub within : 2 * at ≤ length bytes
   pub there : count ≤ length (answersOn bytes)
   pub left : drop count (answersOn bytes) ≡ answersTo (length bytes - count) β (drop (2 * at) bytes)
   pub stored : answers ≡ take count (answersOn bytes) ++ drop count (replicate 6554 0)
 
-pub listed-none : (bytes : List ℕ) (β : Board) → β ≡ freshBoard 0 0 → Listed bytes 0 0 β (replicate 6554 0)
+pub answered-none : (bytes : List ℕ) (β : Board) → β ≡ freshBoard 0 0 → Answered bytes 0 0 β (replicate 6554 0)
 unfolding answersOn
-listed-none bytes β e =
+answered-none bytes β e =
     record {
       five = omega arith;
       within = omega arith;
@@ -160,8 +174,8 @@ unfolding powerUpAnswer
 fresh-up = refl
 
 -- no byte is left
-pub listed-end : (bytes : List ℕ) (count at : ℕ) (β : Board) (answers : List ℕ) → Listed bytes count at β answers → length bytes ≤ 2 * at → record { first = 1; count = count; answers = answers } ≡ padded 1 (answersOn bytes)
-listed-end bytes count at β answers g h =
+pub answered-end : (bytes : List ℕ) (count at : ℕ) (β : Board) (answers : List ℕ) → Answered bytes count at β answers → length bytes ≤ 2 * at → record { first = 1; count = count; answers = answers } ≡ padded 1 (answersOn bytes)
+answered-end bytes count at β answers g h =
     let e : drop count (answersOn bytes) ≡ [] = g .left ∙ answers-none _ β (drop (2 * at) bytes) (length-drop (2 * at) bytes ∙ omega arith) in
     let n : length (answersOn bytes) - count ≡ 0 = sym (length-drop count (answersOn bytes)) ∙ ap length e in
     let t = g .there in
@@ -170,7 +184,7 @@ listed-end bytes count at β answers g h =
 -- a turn: the board obeys the words w that are left, as d says, and its answer's number is n
 pub record Turn (bytes : List ℕ) (count at : ℕ) (β : Board) (answers w : List ℕ) (d : Obedience) (n : ℕ) : Type 0 where
   pub short : length bytes ≤ 65536
-  pub before : Listed bytes count at β answers
+  pub before : Answered bytes count at β answers
   pub more : 2 * at < length bytes
   pub words : w ≡ drop at (wordsIn bytes)
   pub obeys : Obeys β w d
@@ -215,8 +229,8 @@ module _ (bytes : List ℕ) (count at : ℕ) (β : Board) (answers w : List ℕ)
       ∙ copy-more (answersOn bytes) (replicate 6554 0) count longer (rw (length-replicate {A = ℕ} 6554 0) room)
 
   -- it is the last
-  pub listed-last : stops n ≡ true → record { first = 1; count = count + 1; answers = set answers count n } ≡ padded 1 (answersOn bytes)
-  listed-last s =
+  pub answered-last : stops n ≡ true → record { first = 1; count = count + 1; answers = set answers count n } ≡ padded 1 (answersOn bytes)
+  answered-last s =
       let e : drop (suc count) (answersOn bytes) ≡ [] = part-after (answersOn bytes) count n _ answers-part ∙ rw s refl in
       let m : length (answersOn bytes) - suc count ≡ 0 = sym (length-drop (suc count) (answersOn bytes)) ∙ ap length e in
       let l = longer in
@@ -238,9 +252,9 @@ module _ (bytes : List ℕ) (count at : ℕ) (β : Board) (answers w : List ℕ)
     place-after : 2 * at + 2 * usedOf (commandAnswer (wordsIn part)) ≡ 2 * (at + d .used)
     place-after = let u : d .used ≡ usedOf (commandAnswer (wordsIn part)) = t .obeys .used ∙ ap (λ (v : List ℕ). usedOf (commandAnswer v)) words-part in omega arith
 
-    pub listed-more : (γ : Board) → γ ≡ ranOut (d .board) → Listed bytes (count + 1) (at + d .used) γ (set answers count n)
+    pub answered-more : (γ : Board) → γ ≡ ranOut (d .board) → Answered bytes (count + 1) (at + d .used) γ (set answers count n)
     unfolding part after
-    listed-more γ e =
+    answered-more γ e =
         let f = t .before .five in
         let u = used-enough in
         let l = longer in

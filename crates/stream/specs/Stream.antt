@@ -50,7 +50,7 @@ answersTo (suc m) β (b ∷ bs) =
     numberFor β (b ∷ bs)
     ∷ cond (stops (numberFor β (b ∷ bs))) [] (answersTo m (ranOut (boardAfter β (wordsIn (b ∷ bs)))) (bytesAfter (b ∷ bs)))
 
--- those of all its commands, which are no more than its bytes, on a fresh board
+-- those of all its commands, which are no more than its bytes (proofs/Answers.antt, `answers-any`), on a fresh board
 unfoldable pub answersOn : List ℕ → List ℕ
 answersOn bytes = answersTo (length bytes) (freshBoard 0 0) bytes
 

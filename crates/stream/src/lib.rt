@@ -73,7 +73,9 @@ fn answers_on(bytes: &[u8], words: &[u16]) -> Listing
     let mut answers = [0u8; 6554];
     let mut count = 0;
     let mut at = 0;
-    while 2 * at < bytes.len() {
+    // An odd byte at the end is no word, and what is left there still gets an answer.
+    let end = (bytes.len() + 1) / 2;
+    while at < end {
         let done = board.obey(&words[at..]);
         let answer = done.answer;
         let number = number_given(answer);

@@ -1,8 +1,8 @@
 -- `listing::main` meets its contract. Assumes nothing.
-use Rattle.stream.proofs.Answers.{count-listed, first-listed}
 use Prim.Native.Nat.{_-_}
-use borrow.Author.Needs.{needs}
 use native.Mathlib.Omega.{arith}
+use borrow.Author.Needs.{needs}
+use Rattle.stream.proofs.Answers.{count-listed, first-listed}
 use Rattle.listing.proofs.main.Statement.{statement}
 use Rattle.listing.proofs.main.Tie as tie
 

@@ -1,21 +1,21 @@
 -- `stream::answers_on` meets its contract. Assumes nothing.
-use Rattle.stream.proofs.Answers.{Listed, Turn, listed-none, fresh-up, listed-end, room, listed-last, used-enough, used-there, listed-more}
-use Rattle.words.proofs.Bytes.{length-words}
-use Rattle.words.proofs.Laws.{part-rest}
+use Prim.Native.Nat.{_≤_, _-_, _*_, _/_}
+use mathlib.Core.Path.{_≡_, sym, ap, _∙_}
+use native.Mathlib.Omega.{arith}
 use lib.ListN.{length, take, drop}
 use denote.Ref.{now}
-use mathlib.Core.Path.{_≡_, sym, ap, _∙_}
-use Prim.Native.Nat.{_≤_, _-_, _*_, _/_}
 use borrow.Author.Needs.{needs}
-use native.Mathlib.Omega.{arith}
+use Rattle.words.proofs.Bytes.{length-words}
+use Rattle.words.proofs.Laws.{part-rest}
+use Rattle.stream.proofs.Answers.{Answered, Turn, answered-none, fresh-up, answered-end, room, answered-last, used-enough, used-there, answered-more}
 use Rattle.stream.proofs.answers_on.Statement.{statement}
 use Rattle.stream.proofs.answers_on.Tie as tie
 
 abbrev Inv-loop : tie.InvT-loop
-Inv-loop bytes words board₀ answers₀ count₀ at₀ board answers count at = Listed bytes count at board answers
+Inv-loop bytes words board₀ answers₀ count₀ at₀ end board answers count at = Answered bytes count at board answers
 
 abbrev μ-loop : tie.MeasureT-loop
-μ-loop bytes words board₀ answers₀ count₀ at₀ board answers count at = length bytes - 2 * at
+μ-loop bytes words board₀ answers₀ count₀ at₀ end board answers count at = length bytes - 2 * at
 
 -- the words behind are words of the bytes
 at-within : (c : tie.In-loop Inv-loop μ-loop) → c .before .loop .at ≤ length (now (c .before .before .before .before .before .before .args .words))
@@ -42,7 +42,7 @@ turn c =
     record {
       short = a .pre .1;
       before = l .inv;
-      more = c .before .before .before .loop-test .taken;
+      more = let h = c .before .before .before .loop-test .taken in omega arith;
       words = part-rest (now (a .args .words)) (l .at) ∙ ap (drop (l .at)) (a .pre .0);
       obeys = c .before .obey .ensures;
       number = c .number-given .ensures;
@@ -51,11 +51,11 @@ turn c =
 power-up-requires : tie.Need-power-up-requires Inv-loop μ-loop
 power-up-requires c κs = search needs
 
-loop-holds : tie.Need-loop-holds Inv-loop μ-loop
-loop-holds c = listed-none _ _ (c .before .power-up .ensures .board ∙ fresh-up)
+add-end : tie.Need-add-end Inv-loop μ-loop
+add-end c = let s = c .before .before .before .before .pre .1 in omega arith
 
-mul-loop : tie.Need-mul-loop Inv-loop μ-loop
-mul-loop c = let h = c .loop .inv .within in let s = c .before .before .before .before .before .pre .1 in omega arith
+loop-holds : tie.Need-loop-holds Inv-loop μ-loop
+loop-holds c = answered-none _ _ (c .before .power-up .ensures .board ∙ fresh-up)
 
 mul-obey : tie.Need-mul-obey Inv-loop μ-loop
 mul-obey c = let h = c .before .loop .inv .within in let s = c .before .before .before .before .before .before .pre .1 in omega arith
@@ -85,7 +85,7 @@ is-last-requires : tie.Need-is-last-requires Inv-loop μ-loop
 is-last-requires c κs = search needs
 
 returns : tie.Need-returns Inv-loop μ-loop
-returns c = listed-last _ _ _ _ _ _ _ _ (turn (c .before .before)) (sym (c .before .is-last .ensures) ∙ c .if1 .taken)
+returns c = answered-last _ _ _ _ _ _ _ _ (turn (c .before .before)) (sym (c .before .is-last .ensures) ∙ c .if1 .taken)
 
 add-at : tie.Need-add-at Inv-loop μ-loop
 add-at c =
@@ -103,10 +103,10 @@ loop-less c =
     omega arith
 
 loop-again : tie.Need-loop-again Inv-loop μ-loop
-loop-again c = listed-more _ _ _ _ _ _ _ _ (turn (c .before .before .before .before)) (sym (c .before .before .before .is-last .ensures) ∙ c .before .before .if1 .left) _ (c .run-out .ensures)
+loop-again c = answered-more _ _ _ _ _ _ _ _ (turn (c .before .before .before .before)) (sym (c .before .before .before .is-last .ensures) ∙ c .before .before .if1 .left) _ (c .run-out .ensures)
 
 returns-2 : tie.Need-returns-2 Inv-loop μ-loop
-returns-2 c = listed-end _ _ _ _ _ (c .before .loop .inv) (omega arith)
+returns-2 c = answered-end _ _ _ _ _ (c .before .loop .inv) (omega arith)
 
 pub answers-on-spec : {M : Type 1} → statement M
 answers-on-spec =
@@ -115,8 +115,8 @@ answers-on-spec =
     Inv-loop
     μ-loop
     power-up-requires
+    add-end
     loop-holds
-    mul-loop
     mul-obey
     sub-obey
     part-obey-start

@@ -1,13 +1,13 @@
 -- `stream::list_answers` meets its contract. Assumes nothing.
-use Rattle.stream.proofs.Answers.{words-written, listed-long, listed-short}
+use Prim.Native.Nat.{ℕ, _/_}
+use mathlib.Core.Path.{_≡_, sym, ap, _∙_}
+use native.Mathlib.Omega.{arith}
+use lib.ListN.{length, take, length-replicate}
+use denote.Ref.{now}
+use borrow.Author.Needs.{needs}
 use Rattle.words.proofs.Bytes.{length-words}
 use Rattle.words.specs.Words.{wordsIn}
-use denote.Ref.{now}
-use lib.ListN.{length, take, length-replicate}
-use mathlib.Core.Path.{_≡_, sym, ap, _∙_}
-use Prim.Native.Nat.{ℕ, _/_}
-use borrow.Author.Needs.{needs}
-use native.Mathlib.Omega.{arith}
+use Rattle.stream.proofs.Answers.{words-written, listed-long, listed-short}
 use Rattle.stream.proofs.list_answers.Statement.{statement}
 use Rattle.stream.proofs.list_answers.Tie as tie
 
@@ -19,7 +19,7 @@ array-write-answers : tie.Need-array-write-answers
 array-write-answers c = search needs
 
 returns : tie.Need-returns
-returns c = listed-long _ (c .if1 .taken)
+returns c = listed-long _ (omega arith)
 
 slice-aggregate-words-from-bytes : tie.Need-slice-aggregate-words-from-bytes
 slice-aggregate-words-from-bytes c = search needs

@@ -1,9 +1,9 @@
 -- `stream::number_given` meets its contract. Assumes nothing.
-use Rattle.stream.specs.Stream.{numberGiven}
-use Rattle.acceptance.specs.declared.CommandAnswer.{CommandAnswer}
-use Rattle.acceptance.specs.Acceptance.{answerOnPaper}
 use mathlib.Core.Path.{sym, ap, _∙_}
 use borrow.Author.Needs.{needs}
+use Rattle.acceptance.specs.declared.CommandAnswer.{CommandAnswer}
+use Rattle.acceptance.specs.Acceptance.{answerOnPaper}
+use Rattle.stream.specs.Stream.{numberGiven}
 use Rattle.stream.proofs.number_given.Statement.{statement}
 use Rattle.stream.proofs.number_given.Tie as tie
 

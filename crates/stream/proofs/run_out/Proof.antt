@@ -1,7 +1,7 @@
 -- `stream::run_out` meets its contract. Assumes nothing.
-use Rattle.stream.specs.Stream.{timeUps, ranOut}
 use mathlib.Core.Path.{ap, _∙_}
 use borrow.Author.Needs.{needs}
+use Rattle.stream.specs.Stream.{timeUps, ranOut}
 use Rattle.stream.proofs.run_out.Statement.{statement}
 use Rattle.stream.proofs.run_out.Tie as tie
 

@@ -1,11 +1,11 @@
 -- `stream::run_out_on` meets its contract. Assumes nothing.
+use Prim.Native.Nat.{_≤_, _-_, _+_}
+use mathlib.Core.Path.{_≡_, refl, sym, ap, _∙_}
+use native.Mathlib.Omega.{arith}
+use borrow.Author.Needs.{needs}
+use Rattle.board.specs.declared.Board.{Board}
 use Rattle.stream.proofs.RunOut.{more-time-ups, no-time-ups}
 use Rattle.stream.specs.Stream.{timeUps}
-use Rattle.board.specs.declared.Board.{Board}
-use mathlib.Core.Path.{_≡_, refl, sym, ap, _∙_}
-use Prim.Native.Nat.{_≤_, _-_, _+_}
-use borrow.Author.Needs.{needs}
-use native.Mathlib.Omega.{arith}
 use Rattle.stream.proofs.run_out_on.Statement.{statement}
 use Rattle.stream.proofs.run_out_on.Tie as tie
 
