@@ -3,7 +3,7 @@
 use Prim.Native.Nat.{ℕ, zero, suc, _+_, _-_, _<_, _≤_}
 use mathlib.Core.Path.{_≡_, refl, sym, ap, _∙_}
 use mathlib.Core.Bool.{Bool, true, false, cond}
-use mathlib.Core.List.{List, _∷_}
+use mathlib.Core.List.{List, [], _∷_}
 use native.Mathlib.Omega.{arith}
 use native.Mathlib.Numerals.{add-one}
 use lib.Dec.{eqb, leb}
@@ -71,3 +71,38 @@ coded cs (suc n) k i = go (eqb (failedAt cs k) 0) refl i (λ j. coded cs n (suc 
 pub record-coded : (cs : List Crate) (n : ℕ) → leb (length (records cs)) n ≡ eqb (recordAt cs n .code) 0
 unfolding records
 record-coded cs n = coded cs 40 0 n
+
+-- ---- "Records stand in rising k, 40 at most"
+
+most : (cs : List Crate) (n k : ℕ) → length (recordsFrom cs n k) ≤ n
+most cs zero k = omega arith
+most cs (suc n) k = go (eqb (failedAt cs k) 0) (most cs n (suc k))
+  where
+    go : (t : Bool) → length (recordsFrom cs n (suc k)) ≤ n → length (cond t (recordsFrom cs n (suc k)) (failure k (failedAt cs k) ∷ recordsFrom cs n (suc k))) ≤ suc n
+    go true h = omega arith
+    go false h = omega arith
+
+pub forty-most : (cs : List Crate) → length (records cs) ≤ 40
+unfolding records
+forty-most cs = most cs 40 0
+
+-- each record's k is m or more, and above the one before
+abbrev pub Rises : ℕ → List Failure → Type 0
+Rises m [] = Unit
+Rises m (f ∷ fs) = (m ≤ f .k) × Rises (suc (f .k)) fs
+
+rises-lower : (m : ℕ) (fs : List Failure) → Rises (suc m) fs → Rises m fs
+rises-lower m [] r = tt
+rises-lower m (f ∷ fs) r = (let h = r .0 in omega arith, r .1)
+
+rises : (cs : List Crate) (n k : ℕ) → Rises k (recordsFrom cs n k)
+rises cs zero k = tt
+rises cs (suc n) k = go (eqb (failedAt cs k) 0) (rises cs n (suc k))
+  where
+    go : (t : Bool) → Rises (suc k) (recordsFrom cs n (suc k)) → Rises k (cond t (recordsFrom cs n (suc k)) (failure k (failedAt cs k) ∷ recordsFrom cs n (suc k)))
+    go true h = rises-lower k (recordsFrom cs n (suc k)) h
+    go false h = (omega arith, h)
+
+pub records-rise : (cs : List Crate) → Rises 0 (records cs)
+unfolding records
+records-rise cs = rises cs 40 0
