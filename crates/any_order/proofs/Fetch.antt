@@ -13,7 +13,7 @@ use Rattle.refusals.specs.Writing.{writingRules, writing, Wrote}
 use Rattle.refusals.specs.declared.Written.the-variants.{Length}
 use Rattle.refusals.proofs.Tables.{Clear, clear-given, given-clear, clear-front}
 use Rattle.refusals.proofs.Writing.{wrote, wrote-front}
-use Rattle.frames.proofs.Frames.{frame-length}
+use Rattle.steps.proofs.Lengths.{step-length}
 use Rattle.steps.specs.Steps.{stepFrame}
 use Rattle.board.specs.State.{crateAt}
 use Rattle.board.specs.SlowControl.{fetchRules, frameAt}
@@ -36,8 +36,8 @@ fetched-step β c h = let l : c ≤ 3 = omega arith in rw (le-ltb _ _ l) (go (lt
 -- ---- what the fetch gives
 
 length-frame : (β : Board) (c : ℕ) → length (frameAt β c) ≡ 28
-unfolding frameAt stepFrame
-length-frame β c = frame-length _ _ _
+unfolding frameAt
+length-frame β c = step-length (β .block) c (crateAt β c .board) (crateAt β c .code)
 
 clear-fetched : (rs : List Rule) (f : List ℕ) → framesGiven (lowest rs f) ≡ f ∷ [] → Clear rs
 clear-fetched [] f e = tt

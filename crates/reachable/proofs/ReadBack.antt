@@ -4,7 +4,7 @@ use Prim.Native.Nat.{ℕ, _<_, _^_}
 use mathlib.Core.Path.{_≡_, refl, ap, _∙_}
 use mathlib.Core.List.{List, []}
 use native.Mathlib.Omega.{arith}
-use lib.ListN.{length, take}
+use lib.ListN.{take}
 use borrow.Author.Tests.{eqb-false}
 use Rattle.refusals.specs.Tables.{given}
 use Rattle.refusals.specs.Writing.{Wrote}
@@ -19,21 +19,13 @@ use Rattle.block_reader.specs.declared.Kind.the-variants.{Static, Dynamic, FtuL
 use Rattle.round_trips.specs.Blocks.{Sound, ReadsBack}
 use Rattle.round_trips.proofs.Blocks.{static-back, dynamic-back, list-back, failure-back, written-back}
 use Rattle.round_trips.proofs.Packets.{read-written}
-use Rattle.frames.proofs.Frames.{frame-length}
-use Rattle.steps.specs.Steps.{stepFrame}
+use Rattle.steps.proofs.Lengths.{step-length}
+use Rattle.four_crates.proofs.Entries.{forty}
 use Rattle.run.specs.Run.{triggerNumber, triggerRules}
-use Rattle.four_crates.specs.FourCrates.{entriesOf, recordAt}
+use Rattle.four_crates.specs.FourCrates.{recordAt}
 use Rattle.board.specs.SentOut.{headerOf, staticDue, dynamicDue, listRules, listOf, listDue, failureRules, failedFrame, failureDue}
 use Rattle.board.specs.declared.Board.{Board}
 use Rattle.reachable.specs.Reachable.{Reachable}
-
-entries-length : (β : Board) → length (listOf β .entries) ≡ 40
-unfolding entriesOf
-entries-length β = refl
-
-failed-length : (β : Board) (i : ℕ) → length (failedFrame β (recordAt (β .crates) i)) ≡ 28
-unfolding stepFrame
-failed-length β i = frame-length _ _ _
 
 module _ (β : Board) (h : Reachable β) where
   sound : Sound (headerOf β)
@@ -57,14 +49,14 @@ module _ (β : Board) (h : Reachable β) where
     pub list-reads : Wrote (listRules β) (listDue β) out (Length n) after → ReadsBack FtuList (take n after) (headerOf β) (listBody (listOf β))
     list-reads w =
         written-back (headerOf β) sound FtuList (listBody (listOf β)) (listRules β) out after n w
-        (list-back (headerOf β) sound (listOf β) (entries-length β))
+        (list-back (headerOf β) sound (listOf β) (forty (β .crates)))
 
     pub failure-reads : (i : ℕ) → Wrote (failureRules β i) (failureDue β i) out (Length n) after
         → ReadsBack Failure (take n after) (headerOf β) (failureBody 3 (failedFrame β (recordAt (β .crates) i)))
     failure-reads i w =
         let frame = failedFrame β (recordAt (β .crates) i) in
         written-back (headerOf β) sound Failure (failureBody 3 frame) (failureRules β i) out after n w
-        (failure-back (headerOf β) sound 3 frame (failed-length β i))
+        (failure-back (headerOf β) sound 3 frame (step-length (β .block) _ _ _))
 
     -- ---- packets
 
