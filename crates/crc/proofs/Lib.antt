@@ -1,4 +1,5 @@
 -- Laws that belong to no one function.
-pub mod Laws
 pub mod Xor
 pub mod Linear
+pub mod Below
+pub mod Steps

@@ -1,0 +1,8 @@
+-- Laws that belong to no one function.
+pub mod Saying
+pub mod Writing
+pub mod Asking
+pub mod Fields
+pub mod Changing
+pub mod Letters
+pub mod Lines

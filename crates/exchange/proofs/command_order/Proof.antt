@@ -1,0 +1,45 @@
+-- `exchange::command_order` meets its contract. Assumes nothing.
+use denote.Ref.{now}
+use borrow.Author.Tests.{ne-eqb}
+use Rattle.exchange.proofs.Writing.{words-front, front-length}
+use Rattle.exchange.proofs.Changing.{unserved, commanded}
+use borrow.Author.Needs.{needs}
+use Rattle.exchange.proofs.command_order.Statement.{statement}
+use Rattle.exchange.proofs.command_order.Tie as tie
+
+returns : tie.Need-returns
+returns c = unserved _ _ _ (ne-eqb _ _ (c .if1 .taken))
+
+slice-aggregate-words-from-bytes : tie.Need-slice-aggregate-words-from-bytes
+slice-aggregate-words-from-bytes c = search needs
+
+words-from-bytes-requires : tie.Need-words-from-bytes-requires
+words-from-bytes-requires c κs = search needs
+
+array-share-prefix-words : tie.Need-array-share-prefix-words
+array-share-prefix-words c = search needs
+
+slice-aggregate-obey : tie.Need-slice-aggregate-obey
+slice-aggregate-obey c = front-length (now (c .before .before .before .before .before .before .args .bytes)) _ _ _ (c .before .before .words-from-bytes .ensures) (search needs)
+
+obey-requires : tie.Need-obey-requires
+obey-requires c κs = search needs
+
+command-said-requires : tie.Need-command-said-requires
+command-said-requires c κs = search needs
+
+returns-2 : tie.Need-returns-2
+returns-2 c = let a = c .before .before .before .before .before .before .before .before .before .args in commanded (a .board) (now (a .bytes)) _ (c .command-said .result) (c .before .before .obey .result) (c .before .before .before .before .before .before .before .if1 .left) (words-front (now (a .bytes)) _ _ _ (c .before .before .before .before .before .words-from-bytes .ensures) (search needs)) (c .before .before .obey .ensures) (c .command-said .ensures)
+
+pub command-order-spec : {M : Type 1} → statement M
+command-order-spec =
+    tie.close
+    (tie.spec
+    returns
+    slice-aggregate-words-from-bytes
+    words-from-bytes-requires
+    array-share-prefix-words
+    slice-aggregate-obey
+    obey-requires
+    command-said-requires
+    returns-2)

@@ -1,0 +1,73 @@
+-- `exchange::power_up_order` meets its contract. Assumes nothing.
+use denote.Ref.{now}
+use borrow.Author.Tests.{ne-eqb}
+use Rattle.exchange.proofs.Writing.{words-whole}
+use Rattle.exchange.proofs.Changing.{unserved, powered-up, power-up-refused}
+use borrow.Author.Needs.{needs}
+use Rattle.exchange.proofs.power_up_order.Statement.{statement}
+use Rattle.exchange.proofs.power_up_order.Tie as tie
+
+returns : tie.Need-returns
+returns c = unserved _ _ _ (ne-eqb _ _ (c .if1 .taken))
+
+slice-aggregate-words-from-bytes : tie.Need-slice-aggregate-words-from-bytes
+slice-aggregate-words-from-bytes c = search needs
+
+words-from-bytes-requires : tie.Need-words-from-bytes-requires
+words-from-bytes-requires c κs = search needs
+
+array-read-number64 : tie.Need-array-read-number64
+array-read-number64 c = search needs
+
+array-read-number64-2 : tie.Need-array-read-number64-2
+array-read-number64-2 c = search needs
+
+array-read-number64-3 : tie.Need-array-read-number64-3
+array-read-number64-3 c = search needs
+
+array-read-number64-4 : tie.Need-array-read-number64-4
+array-read-number64-4 c = search needs
+
+number64-requires : tie.Need-number64-requires
+number64-requires c κs = search needs
+
+array-read-power-up : tie.Need-array-read-power-up
+array-read-power-up c = search needs
+
+power-up-requires : tie.Need-power-up-requires
+power-up-requires c κs = search needs
+
+enum-told : tie.Need-enum-told
+enum-told c = search needs
+
+enum-known-answer : tie.Need-enum-known-answer
+enum-known-answer c = search needs
+
+refusal-said-requires : tie.Need-refusal-said-requires
+refusal-said-requires c κs = search needs
+
+returns-2 : tie.Need-returns-2
+returns-2 c = let a = c .before .before .before .before .before .before .before .before .before .before .args in powered-up (a .board) (now (a .bytes)) _ (c .before .before .before .before .before .before .before .before .if1 .left) (words-whole (now (a .bytes)) _ _ _ (c .before .before .before .before .before .before .words-from-bytes .ensures) (search needs)) (c .before .before .before .before .number64 .result) (c .before .before .before .before .number64 .ensures) (c .before .before .before .power-up .result) (c .before .before .before .power-up .ensures) (c .enum-told .given .1)
+
+returns-3 : tie.Need-returns-3
+returns-3 c = let a = c .before .before .before .before .before .before .before .before .before .before .before .before .args in power-up-refused (a .board) (now (a .bytes)) _ (c .before .before .before .before .before .before .before .before .before .before .if1 .left) (words-whole (now (a .bytes)) _ _ _ (c .before .before .before .before .before .before .before .before .words-from-bytes .ensures) (search needs)) (c .before .before .before .before .before .before .number64 .result) (c .before .before .before .before .before .before .number64 .ensures) (c .before .before .before .before .before .power-up .result) (c .before .before .before .before .before .power-up .ensures) _ (c .refusal-said .result) (c .before .before .answer .given .1) (c .refusal-said .ensures)
+
+pub power-up-order-spec : {M : Type 1} → statement M
+power-up-order-spec =
+    tie.close
+    (tie.spec
+    returns
+    slice-aggregate-words-from-bytes
+    words-from-bytes-requires
+    array-read-number64
+    array-read-number64-2
+    array-read-number64-3
+    array-read-number64-4
+    number64-requires
+    array-read-power-up
+    power-up-requires
+    enum-told
+    enum-known-answer
+    refusal-said-requires
+    returns-2
+    returns-3)

@@ -1,0 +1,56 @@
+-- `exchange::serve_read` meets its contract. Assumes nothing.
+use borrow.Author.Needs.{needs}
+use native.Mathlib.Omega.{arith}
+use Rattle.exchange.proofs.Lines.{too-long, odd, is-order, as-many, no-more, as-line, ordered}
+use Rattle.exchange.proofs.serve_read.Statement.{statement}
+use Rattle.exchange.proofs.serve_read.Tie as tie
+use Rattle.exchange.proofs.serve_read.Reads as reads
+use Rattle.exchange.proofs.serve_read.Lts as lts
+use Rattle.exchange.proofs.lesser.Reads as lesser-reads
+use Rattle.exchange.proofs.question.Reads as question-reads
+use Rattle.exchange.proofs.serve_order.Reads as serve-order-reads
+use Rattle.texts.proofs.write_said.Reads as write-said-reads
+
+question-requires : tie.Need-question-requires
+question-requires c κs = search needs
+
+returns : tie.Need-returns
+returns c = as-line _ _ _ _ _ _ (too-long (c .before .before .before .before .args .reading) _ (c .before .before .if1 .taken)) (c .question .ensures)
+
+question-requires-2 : tie.Need-question-requires-2
+question-requires-2 c κs = search needs
+
+returns-2 : tie.Need-returns-2
+returns-2 c = as-line _ _ _ _ _ _ (odd (c .before .before .before .before .before .args .reading) _ (c .before .before .if2 .taken)) (c .question2 .ensures)
+
+lesser-requires : tie.Need-lesser-requires
+lesser-requires c κs = search needs
+
+slice-aggregate-serve-order : tie.Need-slice-aggregate-serve-order
+slice-aggregate-serve-order c = as-many _ _ _ (c .before .lesser .ensures)
+
+serve-order-requires : tie.Need-serve-order-requires
+serve-order-requires c κs = no-more _ _ _ (omega arith) (c .before .before .before .lesser .ensures)
+
+write-said-requires : tie.Need-write-said-requires
+write-said-requires c κs = search needs
+
+returns-3 : tie.Need-returns-3
+returns-3 c =
+    as-line _ _ _ _ _ _
+    (is-order (c .before .before .before .before .before .before .before .before .before .before .before .before .before .args .reading) _ _ (c .before .before .before .before .before .before .before .before .before .before .before .if1 .left) (c .before .before .before .before .before .before .before .before .before .before .if2 .left) (c .before .before .before .before .before .before .before .before .before .lesser .ensures))
+    (ordered _ _ _ _ _ _ _ _ _ (c .before .before .before .before .before .serve-order .ensures) (c .write-said .ensures .0) (c .write-said .ensures .1))
+
+pub serve-read-spec : {M : Type 1} → statement M
+serve-read-spec =
+    tie.close
+    (tie.spec
+    question-requires
+    returns
+    question-requires-2
+    returns-2
+    lesser-requires
+    slice-aggregate-serve-order
+    serve-order-requires
+    write-said-requires
+    returns-3)

@@ -1,0 +1,27 @@
+-- `exchange::time_up_order` meets its contract. Assumes nothing.
+use denote.Ref.{now}
+use borrow.Author.Tests.{ne-eqb}
+use Rattle.exchange.proofs.Changing.{unserved, timed-up}
+use borrow.Author.Needs.{needs}
+use Rattle.exchange.proofs.time_up_order.Statement.{statement}
+use Rattle.exchange.proofs.time_up_order.Tie as tie
+
+returns : tie.Need-returns
+returns c = unserved _ _ _ (ne-eqb _ _ (c .if1 .taken))
+
+shared-slice-read-time-up : tie.Need-shared-slice-read-time-up
+shared-slice-read-time-up c = search needs
+
+time-up-requires : tie.Need-time-up-requires
+time-up-requires c κs = search needs
+
+outcome-said-requires : tie.Need-outcome-said-requires
+outcome-said-requires c κs = search needs
+
+returns-2 : tie.Need-returns-2
+returns-2 c = let a = c .before .before .before .before .before .before .args in timed-up (a .board) (c .outcome-said .result) (c .before .before .time-up .result) (c .outcome-said .ensures) (now (a .bytes)) (c .before .before .before .before .if1 .left) (c .before .before .time-up .ensures)
+
+pub time-up-order-spec : {M : Type 1} → statement M
+time-up-order-spec =
+    tie.close
+    (tie.spec returns shared-slice-read-time-up time-up-requires outcome-said-requires returns-2)

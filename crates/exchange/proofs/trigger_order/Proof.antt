@@ -1,0 +1,36 @@
+-- `exchange::trigger_order` meets its contract. Assumes nothing.
+use denote.Ref.{now}
+use Rattle.exchange.proofs.Fields.{eight}
+use Rattle.exchange.proofs.Changing.{no-trigger, triggered}
+use borrow.Author.Needs.{needs}
+use Rattle.exchange.proofs.trigger_order.Statement.{statement}
+use Rattle.exchange.proofs.trigger_order.Tie as tie
+
+are-fields-requires : tie.Need-are-fields-requires
+are-fields-requires c κs = search needs
+
+fields-from-requires : tie.Need-fields-from-requires
+fields-from-requires c κs = eight (now (c .before .before .before .args .bytes)) (c .before .are-fields .result) (c .before .are-fields .ensures) (c .if1 .taken)
+
+trigger-requires : tie.Need-trigger-requires
+trigger-requires c κs = search needs
+
+bytes-said-requires : tie.Need-bytes-said-requires
+bytes-said-requires c κs = search needs
+
+returns : tie.Need-returns
+returns c = let a = c .before .before .before .before .before .before .before .before .args in triggered (a .board) (now (a .bytes)) _ _ (c .bytes-said .result) (c .before .before .before .before .before .before .are-fields .result) (c .before .before .before .before .fields-from .result) (c .before .before .trigger .result) (c .before .before .before .before .before .before .are-fields .ensures) (c .before .before .before .before .before .if1 .taken) (c .before .before .before .before .fields-from .ensures) (search needs) (c .before .before .trigger .ensures) (c .bytes-said .ensures)
+
+returns-2 : tie.Need-returns-2
+returns-2 c = let a = c .before .before .before .args in no-trigger (a .board) (now (a .bytes)) _ (c .before .are-fields .result) (c .before .are-fields .ensures) (c .if1 .left)
+
+pub trigger-order-spec : {M : Type 1} → statement M
+trigger-order-spec =
+    tie.close
+    (tie.spec
+    are-fields-requires
+    fields-from-requires
+    trigger-requires
+    bytes-said-requires
+    returns
+    returns-2)

@@ -1,0 +1,426 @@
+// A replay script's lines, served on a board: what the replay program decides.
+ghost use mathlib.Core.Path.{_≡_};
+ghost use Prim.Native.Nat.{_≤_, min};
+ghost use lib.ListN.{length};
+ghost use Rattle.refusals.specs.Refusals.{numberOf, placeOf};
+ghost use Rattle.refusals.specs.Writing.{writtenOnPaper};
+ghost use Rattle.acceptance.specs.Acceptance.{answerOnPaper};
+ghost use Rattle.crate_pass.specs.Crate.{replyOnPaper};
+ghost use Rattle.script.specs.Script.{malformed, orderIn, lineIn};
+ghost use Rattle.texts.specs.Texts.{saidOnPaper};
+ghost use Rattle.exchange.specs.Orders.{areFlags, areFields, fieldsFrom, oneByte, noByte, anyWords, powerUpOrder, clockOrder, triggerOrder, replyFrom, askedBy, command, timeUp, outstanding, framesSent, static, ftuList, failure, dynamic, orderOf};
+ghost use Rattle.exchange.specs.Exchange.{Says, SaysInBytes, SaysInWords, SaysWrittenBytes, SaysWrittenWords, refusalReply, commandReply, outcomeReply, replyTo, Answers, AnswersInBytes, AnswersBoth, ServesLine};
+use acceptance::CommandAnswer;
+use board::Board;
+use board::PowerUp;
+use board::power_up;
+use crate_pass::ReplyAnswer;
+use four_crates::FramesSent;
+use numbers::number32;
+use numbers::number64;
+use packets::Fields;
+use refusals::Refusal;
+use refusals::Written;
+use script::Form;
+use script::Reading;
+use texts::Said;
+use texts::write_said;
+use words::words_from_bytes;
+
+// What an order gets, with the board after it.
+pub struct Answered {
+    pub said: Said,
+    pub board: Board,
+}
+
+// A line served: how much of the text is printed, and the board after it.
+pub struct ServedLine {
+    pub length: usize,
+    pub board: Board,
+}
+
+// A refusal's number, and for 8 the place.
+fn refusal_said(refusal: Refusal) -> Said
+    ensures { λ r. ⌜ Says r (refusalReply (numberOf refusal) (placeOf refusal)) ⌝ }
+{
+    match refusal {
+        Refusal::AboveBound(place) => Said::Two(8, place),
+        _ => Said::One(refusal.number() as usize),
+    }
+}
+
+// What is said of a command.
+fn command_said(answer: CommandAnswer, used: usize) -> Said
+    ensures { λ r. ⌜ Says r (commandReply used (answerOnPaper answer)) ⌝ }
+{
+    match answer {
+        CommandAnswer::Obeyed(c) => Said::Done(used, c),
+        CommandAnswer::Refused(r) => match r {
+            Refusal::AboveBound(place) => Said::Three(8, used, place),
+            _ => Said::Two(r.number() as usize, used),
+        },
+    }
+}
+
+// What is said of a reply or a time-up.
+fn outcome_said(answer: ReplyAnswer) -> Said
+    ensures { λ r. ⌜ Says r (outcomeReply (replyOnPaper answer)) ⌝ }
+{
+    match answer {
+        ReplyAnswer::Served(o) => Said::Served(o),
+        ReplyAnswer::Refused(r) => refusal_said(r),
+    }
+}
+
+// Bytes that were written, or why not.
+fn bytes_said(written: Written) -> Said
+    ensures { λ r. ⌜ SaysWrittenBytes r (writtenOnPaper written) ⌝ }
+{
+    match written {
+        Written::Length(n) => Said::Bytes(n),
+        Written::Refused(r) => refusal_said(r),
+    }
+}
+
+// Words that were written, or why not.
+fn words_said(written: Written) -> Said
+    ensures { λ r. ⌜ SaysWrittenWords r (writtenOnPaper written) ⌝ }
+{
+    match written {
+        Written::Length(n) => Said::Words(n),
+        Written::Refused(r) => refusal_said(r),
+    }
+}
+
+// ---- orders that may change the board
+
+// P: the board ID in four words, the firmware ID in one.
+fn power_up_order(board: Board, bytes: &[u8]) -> Answered
+    ensures { λ r. ⌜ Answers board (powerUpOrder (now (bytes .entry))) r ⌝ }
+{
+    if bytes.len() != 10 {
+        return Answered {
+            said: Said::Question,
+            board,
+        };
+    }
+    let mut w = [0u16; 5];
+    words_from_bytes(bytes, &mut w);
+    let up = power_up(number64(w[0], w[1], w[2], w[3]), w[4]);
+    let answer = up.answer;
+    let fresh = up.board;
+    match answer {
+        PowerUp::Up => Answered {
+            said: Said::One(0),
+            board: fresh,
+        },
+        PowerUp::Refused(r) => {
+            let said = refusal_said(r);
+            Answered { said, board }
+        }
+    }
+}
+
+// C: the first command of the words is obeyed.
+fn command_order(board: Board, bytes: &[u8]) -> Answered
+    requires { ⌜ length (now bytes) ≤ 2048 ⌝ }
+    ensures { λ r. ⌜ Answers board (anyWords command (now (bytes .entry))) r ⌝ }
+{
+    if bytes.len() % 2 != 0 {
+        return Answered {
+            said: Said::Question,
+            board,
+        };
+    }
+    let mut words = [0u16; 1024];
+    words_from_bytes(bytes, &mut words);
+    let count = bytes.len() / 2;
+    let done = board.obey(&words[..count]);
+    let answer = done.answer;
+    let next = done.board;
+    Answered {
+        said: command_said(answer, done.used),
+        board: next,
+    }
+}
+
+// K: the ticks of a clock step in two words.
+fn clock_order(board: Board, bytes: &[u8]) -> Answered
+    ensures { λ r. ⌜ Answers board (clockOrder (now (bytes .entry))) r ⌝ }
+{
+    if bytes.len() != 4 {
+        return Answered {
+            said: Said::Question,
+            board,
+        };
+    }
+    let mut w = [0u16; 2];
+    words_from_bytes(bytes, &mut w);
+    Answered {
+        said: Said::One(0),
+        board: board.clock(number32(w[0], w[1])),
+    }
+}
+
+// Whether three bytes are flags.
+fn are_flags(a: u8, b: u8, c: u8) -> bool
+    ensures { λ r. ⌜ r ≡ areFlags a b c ⌝ }
+{
+    if 1 < a {
+        return false;
+    }
+    if 1 < b {
+        return false;
+    }
+    c <= 1
+}
+
+// Whether bytes are a trigger's fields.
+fn are_fields(b: &[u8]) -> bool
+    ensures { λ r. ⌜ r ≡ areFields (now (b .entry)) ⌝ }
+{
+    if b.len() != 8 {
+        return false;
+    }
+    if are_flags(b[1], b[2], b[3]) {
+        return are_flags(b[5], b[6], b[7]);
+    }
+    false
+}
+
+// A trigger's fields, a byte each.
+fn fields_from(b: &[u8]) -> Fields
+    requires { ⌜ length (now b) ≡ 8 ⌝ }
+    ensures { λ r. ⌜ r ≡ fieldsFrom (now (b .entry)) ⌝ }
+{
+    Fields {
+        n: b[0],
+        external1: b[1] == 1,
+        external2: b[2] == 1,
+        tim_source: b[3] == 1,
+        pulser_setting: b[4],
+        pedestal: b[5] == 1,
+        lp2: b[6] == 1,
+        lp1: b[7] == 1,
+    }
+}
+
+// G: a trigger.
+fn trigger_order(board: Board, bytes: &[u8], out: &mut [u8; 28]) -> Answered
+    ensures { λ r. ⌜ AnswersInBytes board (triggerOrder (now (bytes .entry))) r (now (out .exit)) ⌝ }
+{
+    if are_fields(bytes) {
+        let t = board.trigger(fields_from(bytes), out);
+        let answer = t.answer;
+        let next = t.board;
+        return Answered {
+            said: bytes_said(answer),
+            board: next,
+        };
+    }
+    Answered {
+        said: Said::Question,
+        board,
+    }
+}
+
+// R: a reply on a crate.
+fn reply_order(board: Board, bytes: &[u8]) -> Answered
+    ensures { λ r. ⌜ Answers board (replyFrom (now (bytes .entry))) r ⌝ }
+{
+    if bytes.len() == 0 {
+        return Answered {
+            said: Said::Question,
+            board,
+        };
+    }
+    let replied = board.reply(bytes[0], &bytes[1..]);
+    let answer = replied.answer;
+    let next = replied.board;
+    Answered {
+        said: outcome_said(answer),
+        board: next,
+    }
+}
+
+// T: a time-up on a crate.
+fn time_up_order(board: Board, bytes: &[u8]) -> Answered
+    ensures { λ r. ⌜ Answers board (oneByte timeUp (now (bytes .entry))) r ⌝ }
+{
+    if bytes.len() != 1 {
+        return Answered {
+            said: Said::Question,
+            board,
+        };
+    }
+    let replied = board.time_up(bytes[0]);
+    let answer = replied.answer;
+    let next = replied.board;
+    Answered {
+        said: outcome_said(answer),
+        board: next,
+    }
+}
+
+// ---- orders that only ask
+
+// F: the outstanding frame of a crate.
+fn frame_order(board: Board, bytes: &[u8], out: &mut [u8; 28]) -> Said
+    ensures { λ r. ⌜ SaysInBytes r (now (out .exit)) (replyTo board (oneByte outstanding (now (bytes .entry)))) ⌝ }
+{
+    if bytes.len() != 1 {
+        return Said::Question;
+    }
+    bytes_said(board.outstanding_frame(bytes[0], out))
+}
+
+// N: the number of frames sent on a crate.
+fn frames_sent_order(board: Board, bytes: &[u8]) -> Said
+    ensures { λ r. ⌜ Says r (replyTo board (oneByte framesSent (now (bytes .entry)))) ⌝ }
+{
+    if bytes.len() != 1 {
+        return Said::Question;
+    }
+    match board.frames_sent(bytes[0]) {
+        FramesSent::Number(n) => Said::Two(0, n as usize),
+        FramesSent::Refused(r) => refusal_said(r),
+    }
+}
+
+// S: the static block.
+fn static_order(board: Board, bytes: &[u8], out: &mut [u16; 498]) -> Said
+    ensures { λ r. ⌜ SaysInWords r (now (out .exit)) (replyTo board (noByte static (now (bytes .entry)))) ⌝ }
+{
+    if bytes.len() != 0 {
+        return Said::Question;
+    }
+    words_said(board.static_block(out))
+}
+
+// L: the FTU list.
+fn list_order(board: Board, bytes: &[u8], out: &mut [u16; 498]) -> Said
+    ensures { λ r. ⌜ SaysInWords r (now (out .exit)) (replyTo board (noByte ftuList (now (bytes .entry)))) ⌝ }
+{
+    if bytes.len() != 0 {
+        return Said::Question;
+    }
+    words_said(board.ftu_list(out))
+}
+
+// M: the failure message of an ordinal.
+fn failure_order(board: Board, bytes: &[u8], out: &mut [u16; 498]) -> Said
+    ensures { λ r. ⌜ SaysInWords r (now (out .exit)) (replyTo board (oneByte failure (now (bytes .entry)))) ⌝ }
+{
+    if bytes.len() != 1 {
+        return Said::Question;
+    }
+    words_said(board.failure_message(bytes[0] as usize, out))
+}
+
+// D: the dynamic block with these measurements.
+fn dynamic_order(board: Board, bytes: &[u8], out: &mut [u16; 498]) -> Said
+    requires { ⌜ length (now bytes) ≤ 2048 ⌝ }
+    ensures { λ r. ⌜ SaysInWords r (now (out .exit)) (replyTo board (anyWords dynamic (now (bytes .entry)))) ⌝ }
+{
+    if bytes.len() % 2 != 0 {
+        return Said::Question;
+    }
+    let mut words = [0u16; 1024];
+    words_from_bytes(bytes, &mut words);
+    let count = bytes.len() / 2;
+    words_said(board.dynamic_block(&words[..count], out))
+}
+
+// An order that only asks, or a letter that is none.
+fn ask(board: Board, letter: u8, bytes: &[u8], out: &mut [u8; 28], words: &mut [u16; 498]) -> Said
+    requires { ⌜ length (now bytes) ≤ 2048 ⌝ }
+    ensures { λ r. ⌜ saidOnPaper r (now (out .exit)) (now (words .exit)) ≡ replyTo board (askedBy letter (now (bytes .entry))) ⌝ }
+{
+    match letter {
+        b'F' => frame_order(board, bytes, out),
+        b'N' => frames_sent_order(board, bytes),
+        b'S' => static_order(board, bytes, words),
+        b'L' => list_order(board, bytes, words),
+        b'M' => failure_order(board, bytes, words),
+        b'D' => dynamic_order(board, bytes, words),
+        _ => Said::Question,
+    }
+}
+
+// An order, by its letter.
+fn serve_order(
+    board: Board,
+    letter: u8,
+    bytes: &[u8],
+    out: &mut [u8; 28],
+    words: &mut [u16; 498],
+) -> Answered
+    requires { ⌜ length (now bytes) ≤ 2048 ⌝ }
+    ensures { λ r. ⌜ AnswersBoth board (orderOf letter (now (bytes .entry))) r (now (out .exit)) (now (words .exit)) ⌝ }
+{
+    match letter {
+        b'P' => power_up_order(board, bytes),
+        b'C' => command_order(board, bytes),
+        b'K' => clock_order(board, bytes),
+        b'G' => trigger_order(board, bytes, out),
+        b'R' => reply_order(board, bytes),
+        b'T' => time_up_order(board, bytes),
+        _ => Answered {
+            said: ask(board, letter, bytes, out, words),
+            board,
+        },
+    }
+}
+
+// A line in another form.
+fn question(board: Board, text: &mut [u8; 2048]) -> ServedLine
+    ensures { λ r. ⌜ ServesLine board malformed (now (text .entry)) r (now (text .exit)) ⌝ }
+{
+    ServedLine {
+        length: write_said(Said::Question, &[0u8; 28], &[0u16; 498], text),
+        board,
+    }
+}
+
+// The lesser of two numbers.
+fn lesser(a: usize, b: usize) -> usize
+    ensures { λ r. ⌜ r ≡ min a b ⌝ }
+{
+    if a < b { a } else { b }
+}
+
+// An order that is read.
+fn serve_read(board: Board, reading: Reading, bytes: &[u8], text: &mut [u8; 2048]) -> ServedLine
+    ensures { λ r. ⌜ ServesLine board (orderIn reading (now (bytes .entry))) (now (text .entry)) r (now (text .exit)) ⌝ }
+{
+    let digits = reading.digits;
+    if 4096 < digits {
+        return question(board, text);
+    }
+    if digits % 2 != 0 {
+        return question(board, text);
+    }
+    let count = lesser(digits / 2, bytes.len());
+    let mut out = [0u8; 28];
+    let mut words = [0u16; 498];
+    let answered = serve_order(board, reading.letter, &bytes[..count], &mut out, &mut words);
+    let said = answered.said;
+    let next = answered.board;
+    ServedLine {
+        length: write_said(said, &out, &words, text),
+        board: next,
+    }
+}
+
+// A line, once it is read: what is printed goes to the front of the text.
+pub fn serve_line(board: Board, reading: Reading, bytes: &[u8], text: &mut [u8; 2048]) -> ServedLine
+    ensures { λ r. ⌜ ServesLine board (lineIn reading (now (bytes .entry))) (now (text .entry)) r (now (text .exit)) ⌝ }
+{
+    let form = reading.form;
+    match form {
+        Form::Empty => ServedLine { length: 0, board },
+        Form::Comment => ServedLine { length: 0, board },
+        Form::Order => serve_read(board, reading, bytes, text),
+        Form::Malformed => question(board, text),
+    }
+}

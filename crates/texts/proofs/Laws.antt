@@ -1,0 +1,114 @@
+-- Characters stored in a text one after another.
+-- Assumes nothing.
+use Prim.Native.Nat.{ℕ, zero, suc, _+_, _-_, _≤_, _<_, _/_, _%_, min}
+use mathlib.Core.Path.{_≡_, refl, sym, ap, ap₂, _∙_}
+use mathlib.Core.List.{List, [], _∷_, _++_, append-nil, append-assoc}
+use native.Mathlib.Omega.{arith}
+use native.Mathlib.Numerals.{add-one}
+use borrow.Author.Tests.{lt-ltb, le-ltb}
+use lib.ListN.{length, take, drop, set, getD, length-append}
+use lib.Seq.{sets, sets-eq, length-sets, drop-cons, take-suc, take-nil}
+use Rattle.texts.specs.Texts.{Appended, inFront, decimalIn, joined}
+
+-- ---- one after the other
+
+sets-both : (d : List ℕ) (at : ℕ) (a b : List ℕ) → sets (sets d at a) (at + length a) b ≡ sets d at (a ++ b)
+sets-both d at [] b = ap (λ (k : ℕ). sets d k b) (omega arith)
+sets-both d at (x ∷ a) b =
+    let e : at + suc (length a) ≡ suc at + length a = omega arith in
+    ap (λ (k : ℕ). sets (sets (set d at x) (suc at) a) k b) e ∙ sets-both (set d at x) (suc at) a b
+
+pub both : {d e f a b : List ℕ} {at m n next end : ℕ} → Appended d at a m next e → Appended e next b n end f → Appended d at (a ++ b) (m + n) end f
+both {d} {e} {f} {a} {b} {at} {m} {n} {next} {end} p q =
+    record {
+      place = rw (length-append a b) (let h = p .place in let k = q .place in omega arith);
+      room = let h = p .room in let k = q .room in omega arith;
+      text = q .text ∙ ap (λ (l : List ℕ). sets l next b) (p .text) ∙ ap (λ (k : ℕ). sets (sets d at a) k b) (p .place) ∙ sets-both d at a b;
+    }
+
+-- the same characters, said otherwise, with more room
+pub within : {d e a b : List ℕ} {at m n next : ℕ} → b ≡ a → m ≤ n → Appended d at a m next e → Appended d at b n next e
+within {d} {at = at} {next = next} h k p =
+    record {
+      place = p .place ∙ ap (λ (l : List ℕ). at + length l) (sym h);
+      room = let r = p .room in omega arith;
+      text = p .text ∙ ap (sets d at) (sym h);
+    }
+
+-- no characters
+pub nothing : (d : List ℕ) (at : ℕ) → Appended d at [] 0 at d
+nothing d at = record { place = omega arith; room = omega arith; text = refl }
+
+-- one character
+pub one : (d : List ℕ) (at x : ℕ) → Appended d at (x ∷ []) 1 (at + 1) (set d at x)
+one d at x = record { place = refl; room = omega arith; text = refl }
+
+-- two characters
+pub two : {a b x y : ℕ} (d : List ℕ) (at : ℕ) → x ≡ a → y ≡ b → Appended d at (a ∷ b ∷ []) 2 (at + 2) (set (set d at x) (at + 1) y)
+two {a} {b} d at h k =
+    record {
+      place = refl;
+      room = omega arith;
+      text = ap₂ (λ (v w : ℕ). set (set d at v) (at + 1) w) h k ∙ ap (λ (n : ℕ). set (set d at a) n b) (add-one at);
+    }
+
+-- one turn of a loop that stores a list
+pub store-more : (d new : List ℕ) (at i : ℕ) → i < length new → sets (set d (at + i) (getD new i 0)) (at + (i + 1)) (drop (i + 1) new) ≡ sets d (at + i) (drop i new)
+store-more d new at i h =
+    let e : at + (i + 1) ≡ suc (at + i) = omega arith in
+    rw (e, add-one, drop-cons new i 0)
+
+-- the line at the front of the text, the rest as it was
+pub in-front : {d line e : List ℕ} {m next : ℕ} → Appended d 0 line m next e → m ≤ length e → (next ≡ length line) × (e ≡ inFront line d)
+in-front {d} {line} {e} {m} {next} p h =
+    let k : next ≡ length line = let q = p .place in omega arith in
+    let n : length e ≡ length d = ap length (p .text) ∙ length-sets d 0 line in
+    let z : 0 + length line ≡ length line = omega arith in
+    (k, p .text ∙ sets-eq line d 0 (let r = p .room in omega arith) ∙ ap (λ (j : ℕ). line ++ drop j d) z)
+
+-- ---- decimal numbers
+
+pub none : (d : List ℕ) (at n m : ℕ) → m ≡ 0 → Appended d at (decimalIn m n) m at d
+none d at n m h = rw h (record { place = omega arith; room = omega arith; text = refl })
+
+pub few : (d : List ℕ) (at n m : ℕ) → n < 10 → 1 ≤ m → Appended d at (decimalIn m n) m (at + 1) (set d at (48 + n))
+few d at n zero h k = absurd (let z : ⊥ = omega arith in z)
+few d at n (suc m) h k = rw (lt-ltb n 10 h) (record { place = refl; room = omega arith; text = refl })
+
+pub more : (d e : List ℕ) (at n m next : ℕ) → 10 ≤ n → 1 ≤ m → Appended d at (decimalIn (m - 1) (n / 10)) (m - 1) next e
+    → Appended d at (decimalIn m n) m (next + 1) (set e next (48 + n % 10))
+more d e at n zero next h k p = absurd (let z : ⊥ = omega arith in z)
+more d e at n (suc m) next h k p =
+    let e₁ : suc m - 1 ≡ m = omega arith in
+    let q = both (rw e₁ at p) (one e next (48 + n % 10)) in
+    rw (le-ltb n 10 h) (record { place = q .place; room = let r = q .room in omega arith; text = q .text })
+
+-- ---- bytes and words in hexadecimal, one after another
+
+joined-snoc : (digits : ℕ → List ℕ) (xs : List ℕ) (x : ℕ) → joined digits (xs ++ (x ∷ [])) ≡ joined digits xs ++ digits x
+joined-snoc digits [] x = append-nil (digits x)
+joined-snoc digits (y ∷ xs) x = ap (λ (l : List ℕ). digits y ++ l) (joined-snoc digits xs x) ∙ sym (append-assoc (digits y) (joined digits xs) (digits x))
+
+take-min : (l : List ℕ) (n : ℕ) → take (min n (length l)) l ≡ take n l
+take-min [] n = take-nil (min n 0) ∙ sym (take-nil n)
+take-min (x ∷ l) zero =
+    let e : min 0 (suc (length l)) ≡ 0 = omega arith in
+    ap (λ (k : ℕ). take k (x ∷ l)) e
+take-min (x ∷ l) (suc n) =
+    let e : min (suc n) (suc (length l)) ≡ suc (min n (length l)) = omega arith in
+    ap (λ (k : ℕ). take k (x ∷ l)) e ∙ ap (λ (t : List ℕ). x ∷ t) (take-min l n)
+
+module _ (digits : ℕ → List ℕ) (xs : List ℕ) {d : List ℕ} {at : ℕ} where
+  -- one turn of the loop
+  pub joined-more : {e f : List ℕ} {i m n most next after : ℕ} → i < length xs → m + n ≤ most
+      → Appended d at (joined digits (take i xs)) m next e → Appended e next (digits (getD xs i 0)) n after f
+      → Appended d at (joined digits (take (i + 1) xs)) most after f
+  joined-more {i = i} h k p q =
+      let e : joined digits (take (i + 1) xs) ≡ joined digits (take i xs) ++ digits (getD xs i 0) =
+      rw (add-one, take-suc xs i 0) (joined-snoc digits (take i xs) (getD xs i 0)) in
+      within e k (both p q)
+
+  -- its end
+  pub joined-all : {e : List ℕ} {i m most next : ℕ} (count : ℕ) → i ≡ min count (length xs) → m ≤ most
+      → Appended d at (joined digits (take i xs)) m next e → Appended d at (joined digits (take count xs)) most next e
+  joined-all count h k p = within (ap (joined digits) (sym (take-min xs count) ∙ sym (ap (λ (j : ℕ). take j xs) h))) k p

@@ -1,0 +1,73 @@
+-- `texts::append_words` meets its contract. Assumes nothing.
+use Prim.Native.Nat.{_≤_, _-_, _*_}
+use lib.ListN.{take}
+use denote.Ref.{now}
+use Rattle.texts.specs.Texts.{Appended, hexWord, joined}
+use Rattle.texts.proofs.Laws.{both, nothing, joined-more, joined-all}
+use borrow.Author.Needs.{needs}
+use native.Mathlib.Omega.{arith}
+use Rattle.texts.proofs.append_words.Statement.{statement}
+use Rattle.texts.proofs.append_words.Tie as tie
+
+abbrev Inv-loop : tie.InvT-loop
+Inv-loop text₀ words count end next₀ i₀ text next i = (i ≤ end) × Appended text₀ next₀ (joined hexWord (take i words)) (4 * i) next text
+
+abbrev μ-loop : tie.MeasureT-loop
+μ-loop text₀ words count end next₀ i₀ text next i = end - i
+
+lesser-requires : tie.Need-lesser-requires Inv-loop μ-loop
+lesser-requires c κs = search needs
+
+slice-aggregate-append : tie.Need-slice-aggregate-append Inv-loop μ-loop
+slice-aggregate-append c = search needs
+
+append-requires : tie.Need-append-requires Inv-loop μ-loop
+append-requires c κs = search needs
+
+loop-holds : tie.Need-loop-holds Inv-loop μ-loop
+loop-holds c = (search needs, nothing _ _)
+
+mul-append-hex-word : tie.Need-mul-append-hex-word Inv-loop μ-loop
+mul-append-hex-word c = search needs
+
+shared-slice-read-append-hex-word : tie.Need-shared-slice-read-append-hex-word Inv-loop μ-loop
+shared-slice-read-append-hex-word c = search needs
+
+append-hex-word-requires : tie.Need-append-hex-word-requires Inv-loop μ-loop
+append-hex-word-requires c κs = search needs
+
+add-i : tie.Need-add-i Inv-loop μ-loop
+add-i c = search needs
+
+loop-less : tie.Need-loop-less Inv-loop μ-loop
+loop-less c = search needs
+
+loop-again : tie.Need-loop-again Inv-loop μ-loop
+loop-again c = (
+  search needs,
+  joined-more hexWord (now (c .before .before .before .before .before .before .before .before .before .before .args .words)) (omega arith) (omega arith) (c .before .before .before .before .loop .inv .1) (c .append-hex-word .ensures),
+)
+
+returns : tie.Need-returns Inv-loop μ-loop
+returns c =
+    let a = c .before .before .before .before .before .before .before .args in
+    let l = c .before .loop in
+    both {n = 1992} (c .before .before .append .ensures) (joined-all hexWord (now (a .words)) {i = l .i} (a .count) (omega arith) (omega arith) (l .inv .1))
+
+pub append-words-spec : {M : Type 1} → statement M
+append-words-spec =
+    tie.close
+    (tie.spec
+    Inv-loop
+    μ-loop
+    lesser-requires
+    slice-aggregate-append
+    append-requires
+    loop-holds
+    mul-append-hex-word
+    shared-slice-read-append-hex-word
+    append-hex-word-requires
+    add-i
+    loop-less
+    loop-again
+    returns)

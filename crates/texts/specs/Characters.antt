@@ -1,0 +1,10 @@
+-- A text as the numbers of its characters.
+use Prim.Native.Nat.{ℕ}
+use Prim.Native.Char.{Char, code}
+use Prim.Native.String.{String, [], _∷_}
+use mathlib.Core.List.{List}
+use mathlib.Core.List as List'
+
+abbrev pub ascii : String → List ℕ
+ascii [] = List'.[]
+ascii (c ∷ s) = List'._∷_ (code c) (ascii s)

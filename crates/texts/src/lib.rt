@@ -1,0 +1,242 @@
+// The line that is printed for an answer.
+ghost use mathlib.Core.Path.{_≡_};
+ghost use mathlib.Core.List.{[], _∷_};
+ghost use Prim.Native.Nat.{_+_, _≤_, _<_, min};
+ghost use lib.ListN.{length, take};
+ghost use Rattle.texts.specs.Characters.{ascii};
+ghost use Rattle.texts.specs.Texts.{done, served, inBytes, inWords, Appended, inFront, hexDigit, hexByte, hexWord, joined, decimal, decimalIn, deedText, doneText, outcomeText, spaced, fieldsOf, textOf, saidOnPaper};
+use commands::BlockKind;
+use commands::Command;
+use crate_pass::Outcome;
+
+// What is printed. The bytes and words stand in arrays beside it.
+pub enum Said {
+    // A line in another form.
+    Question,
+    // Decimal numbers: 0 or a refusal's number first.
+    One(usize),
+    Two(usize, usize),
+    Three(usize, usize, usize),
+    // An obeyed command: the words used, and what was done.
+    Done(usize, Command),
+    // A served reply or time-up.
+    Served(Outcome),
+    // 0, and this many bytes.
+    Bytes(usize),
+    // 0, and this many words.
+    Words(usize),
+}
+
+// Characters at a place of the text; the place after them.
+fn append(text: &mut [u8; 2048], at: usize, characters: &[u8]) -> usize
+    requires { ⌜ at + length (now characters) ≤ 2048 ⌝ }
+    ensures { λ r. ⌜ Appended (now (text .entry)) at (now (characters .entry)) (length (now (characters .entry))) r (now (text .exit)) ⌝ }
+{
+    let mut i = 0;
+    while i < characters.len() {
+        text[at + i] = characters[i];
+        i += 1;
+    }
+    at + i
+}
+
+// The decimal digits of a number, `most` at most.
+fn append_digits(text: &mut [u8; 2048], at: usize, n: usize, most: usize) -> usize
+    requires { ⌜ at + most ≤ 2048 ⌝ }
+    ensures { λ r. ⌜ Appended (now (text .entry)) at (decimalIn most n) most r (now (text .exit)) ⌝ }
+{
+    if most == 0 {
+        return at;
+    }
+    if n < 10 {
+        text[at] = 48 + (n as u8);
+        return at + 1;
+    }
+    let next = append_digits(text, at, n / 10, most - 1);
+    text[next] = 48 + ((n % 10) as u8);
+    next + 1
+}
+
+// A number in decimal.
+fn append_decimal(text: &mut [u8; 2048], at: usize, n: usize) -> usize
+    requires { ⌜ at + 20 ≤ 2048 ⌝ }
+    ensures { λ r. ⌜ Appended (now (text .entry)) at (decimal n) 20 r (now (text .exit)) ⌝ }
+{
+    append_digits(text, at, n, 20)
+}
+
+// Two numbers in decimal.
+fn append_two(text: &mut [u8; 2048], at: usize, first: usize, second: usize) -> usize
+    requires { ⌜ at + 41 ≤ 2048 ⌝ }
+    ensures { λ r. ⌜ Appended (now (text .entry)) at (spaced (decimal first ∷ decimal second ∷ [])) 41 r (now (text .exit)) ⌝ }
+{
+    let next = append_decimal(text, at, first);
+    text[next] = 32;
+    append_decimal(text, next + 1, second)
+}
+
+// Three numbers in decimal.
+fn append_three(text: &mut [u8; 2048], first: usize, second: usize, third: usize) -> usize
+    ensures { λ r. ⌜ Appended (now (text .entry)) 0 (spaced (decimal first ∷ decimal second ∷ decimal third ∷ [])) 62 r (now (text .exit)) ⌝ }
+{
+    let next = append_decimal(text, 0, first);
+    text[next] = 32;
+    append_two(text, next + 1, second, third)
+}
+
+// What was done for a command.
+fn append_deed(text: &mut [u8; 2048], at: usize, command: Command) -> usize
+    requires { ⌜ at + 26 ≤ 2048 ⌝ }
+    ensures { λ r. ⌜ Appended (now (text .entry)) at (deedText command) 26 r (now (text .exit)) ⌝ }
+{
+    match command {
+        Command::Read(kind) => match kind {
+            BlockKind::Static => append(text, at, b"read static"),
+            BlockKind::Dynamic => append(text, at, b"read dynamic"),
+        },
+        Command::Write => append(text, at, b"write"),
+        Command::Start(_) => append(text, at, b"start"),
+        Command::Stop => append(text, at, b"stop"),
+        Command::Ping => append(text, at, b"ping"),
+        Command::CrateReset(number) => {
+            let next = append(text, at, b"reset ");
+            append_decimal(text, next, number as usize)
+        }
+    }
+}
+
+// An obeyed command.
+fn append_obeyed(text: &mut [u8; 2048], used: usize, command: Command) -> usize
+    ensures { λ r. ⌜ Appended (now (text .entry)) 0 (spaced (fieldsOf (done used command))) 49 r (now (text .exit)) ⌝ }
+{
+    let at = append(text, 0, b"0 ");
+    let next = append_decimal(text, at, used);
+    text[next] = 32;
+    append_deed(text, next + 1, command)
+}
+
+// " done" where the crate is done.
+fn append_done(text: &mut [u8; 2048], at: usize, done: bool) -> usize
+    requires { ⌜ at + 5 ≤ 2048 ⌝ }
+    ensures { λ r. ⌜ Appended (now (text .entry)) at (doneText done) 5 r (now (text .exit)) ⌝ }
+{
+    if done { append(text, at, b" done") } else { at }
+}
+
+// A served reply or time-up.
+fn append_served(text: &mut [u8; 2048], outcome: Outcome) -> usize
+    ensures { λ r. ⌜ Appended (now (text .entry)) 0 (spaced (fieldsOf (served outcome))) 13 r (now (text .exit)) ⌝ }
+{
+    match outcome {
+        Outcome::Good(done) => {
+            let next = append(text, 0, b"0 good");
+            append_done(text, next, done)
+        }
+        Outcome::Again(done) => {
+            let next = append(text, 0, b"0 again");
+            append_done(text, next, done)
+        }
+        Outcome::BoardFailed(done) => {
+            let next = append(text, 0, b"0 failed");
+            append_done(text, next, done)
+        }
+    }
+}
+
+// A hexadecimal digit, in capitals.
+fn hex_digit(d: u8) -> u8
+    requires { ⌜ d < 16 ⌝ }
+    ensures { λ r. ⌜ r ≡ hexDigit d ⌝ }
+{
+    if d < 10 { 48 + d } else { 55 + d }
+}
+
+// A byte in hexadecimal.
+fn append_hex_byte(text: &mut [u8; 2048], at: usize, byte: u8) -> usize
+    requires { ⌜ at + 2 ≤ 2048 ⌝ }
+    ensures { λ r. ⌜ Appended (now (text .entry)) at (hexByte byte) 2 r (now (text .exit)) ⌝ }
+{
+    text[at] = hex_digit(byte / 16);
+    text[at + 1] = hex_digit(byte % 16);
+    at + 2
+}
+
+// A word in hexadecimal.
+fn append_hex_word(text: &mut [u8; 2048], at: usize, word: u16) -> usize
+    requires { ⌜ at + 4 ≤ 2048 ⌝ }
+    ensures { λ r. ⌜ Appended (now (text .entry)) at (hexWord word) 4 r (now (text .exit)) ⌝ }
+{
+    let next = append_hex_byte(text, at, (word / 256) as u8);
+    append_hex_byte(text, next, (word % 256) as u8)
+}
+
+// The lesser of two numbers.
+fn lesser(a: usize, b: usize) -> usize
+    ensures { λ r. ⌜ r ≡ min a b ⌝ }
+{
+    if a < b { a } else { b }
+}
+
+// 0, and as many of the bytes, or all.
+fn append_bytes(text: &mut [u8; 2048], bytes: &[u8], count: usize) -> usize
+    requires { ⌜ length (now bytes) ≤ 28 ⌝ }
+    ensures { λ r. ⌜ Appended (now (text .entry)) 0 (spaced (fieldsOf (inBytes (take count (now (bytes .entry)))))) 58 r (now (text .exit)) ⌝ }
+{
+    let end = lesser(count, bytes.len());
+    let mut next = append(text, 0, b"0 ");
+    let mut i = 0;
+    while i < end {
+        next = append_hex_byte(text, next, bytes[i]);
+        i += 1;
+    }
+    next
+}
+
+// 0, and as many of the words, or all.
+fn append_words(text: &mut [u8; 2048], words: &[u16], count: usize) -> usize
+    requires { ⌜ length (now words) ≤ 498 ⌝ }
+    ensures { λ r. ⌜ Appended (now (text .entry)) 0 (spaced (fieldsOf (inWords (take count (now (words .entry)))))) 1994 r (now (text .exit)) ⌝ }
+{
+    let end = lesser(count, words.len());
+    let mut next = append(text, 0, b"0 ");
+    let mut i = 0;
+    while i < end {
+        next = append_hex_word(text, next, words[i]);
+        i += 1;
+    }
+    next
+}
+
+// The fields of what is said.
+fn append_fields(text: &mut [u8; 2048], said: Said, bytes: &[u8; 28], words: &[u16; 498]) -> usize
+    ensures { λ r. ⌜ Appended (now (text .entry)) 0 (spaced (fieldsOf (saidOnPaper said (now (bytes .entry)) (now (words .entry))))) 1994 r (now (text .exit)) ⌝ }
+{
+    match said {
+        Said::Question => append(text, 0, b"?"),
+        Said::One(a) => append_decimal(text, 0, a),
+        Said::Two(a, b) => append_two(text, 0, a, b),
+        Said::Three(a, b, c) => append_three(text, a, b, c),
+        Said::Done(used, command) => append_obeyed(text, used, command),
+        Said::Served(outcome) => append_served(text, outcome),
+        Said::Bytes(n) => append_bytes(text, bytes, n),
+        Said::Words(n) => append_words(text, words, n),
+    }
+}
+
+// The line feed. A slice, since a reference to an array says nothing of its length.
+fn end_line(text: &mut [u8], at: usize) -> usize
+    requires { ⌜ at < length (now text) ⌝ }
+    ensures { λ r. ⌜ Appended (now (text .entry)) at (ascii "\n") 1 r (now (text .exit)) ⌝ }
+{
+    text[at] = 10;
+    at + 1
+}
+
+// The line for what is said, at the front of the text; its length.
+pub fn write_said(said: Said, bytes: &[u8; 28], words: &[u16; 498], text: &mut [u8; 2048]) -> usize
+    ensures { λ r. ⌜ r ≡ length (textOf (saidOnPaper said (now (bytes .entry)) (now (words .entry)))) ⌝ }
+    ensures { λ _. ⌜ now (text .exit) ≡ inFront (textOf (saidOnPaper said (now (bytes .entry)) (now (words .entry)))) (now (text .entry)) ⌝ }
+{
+    let end = append_fields(text, said, bytes, words);
+    end_line(text, end)
+}

@@ -1,0 +1,211 @@
+//! Serves each random pass in a mixed order and crate by crate, in another
+//! replay program and in the model, and compares (01, demand 3):
+//! `orders PATH-TO-OTHER-REPLAY [PASSES [SEED]]`.
+
+use std::process::ExitCode;
+use std::sync::atomic::{AtomicBool, AtomicUsize, Ordering};
+use std::sync::Mutex;
+
+use reference::generate::{self, bytes_line, Item, Pass};
+use reference::other::{self, shown};
+
+const PASSES: usize = 500;
+const SEED: u64 = 1;
+/// Processes of the other program at once.
+const AT_ONCE: usize = 2;
+/// Differences reported before giving up.
+const REPORTED: usize = 10;
+/// Lines for each item: itself, the frame and the number of its crate.
+const PER_ITEM: usize = 3;
+
+/// The script of a pass with its items in this order.
+fn script(pass: &Pass, order: &[&Item]) -> Vec<u8> {
+    let mut text = Vec::new();
+    let mut push = |line: &[u8]| {
+        text.extend_from_slice(line);
+        text.push(b'\n');
+    };
+    pass.before.iter().for_each(|line| push(line));
+    for item in order {
+        push(&item.line());
+        push(&bytes_line(b'F', &[item.crate_number]));
+        push(&bytes_line(b'N', &[item.crate_number]));
+    }
+    pass.after.iter().for_each(|line| push(line));
+    text
+}
+
+/// The crate that an item belongs to; all crates above 3 together come last.
+fn group(item: &Item) -> u8 {
+    item.crate_number.min(4)
+}
+
+/// What one program printed in one order.
+struct Printed<'a> {
+    before: &'a [&'a [u8]],
+    /// The lines of the items of each crate, in order.
+    crates: [Vec<&'a [u8]>; 5],
+    after: &'a [&'a [u8]],
+}
+
+fn divide<'a>(lines: &'a [&'a [u8]], pass: &Pass, order: &[&Item]) -> Result<Printed<'a>, String> {
+    let before = pass.before.iter().filter(|line| !line.is_empty()).count();
+    let expected = before + PER_ITEM * order.len() + pass.after.len();
+    if lines.len() != expected {
+        return Err(format!("{} lines printed and {expected} expected", lines.len()));
+    }
+    let (head, rest) = lines.split_at(before);
+    let (items, after) = rest.split_at(PER_ITEM * order.len());
+    let mut crates: [Vec<&[u8]>; 5] = Default::default();
+    for (item, answers) in order.iter().zip(items.chunks_exact(PER_ITEM)) {
+        crates[usize::from(group(item))].extend_from_slice(answers);
+    }
+    Ok(Printed { before: head, crates, after })
+}
+
+/// The first place where two lists of lines differ.
+fn difference(what: &str, first: &[&[u8]], second: &[&[u8]]) -> Result<(), String> {
+    for place in 0..first.len().max(second.len()) {
+        if first.get(place) != second.get(place) {
+            return Err(format!(
+                "{what}, line {}: {} and {}",
+                place + 1,
+                shown(first.get(place).copied()),
+                shown(second.get(place).copied())
+            ));
+        }
+    }
+    Ok(())
+}
+
+/// Compares one program's two orders.
+fn compare_orders(
+    name: &str,
+    pass: &Pass,
+    mixed: (&[u8], &[&Item]),
+    sorted: (&[u8], &[&Item]),
+) -> Result<(), String> {
+    let with_name = |text: String| format!("{name}: {text}");
+    let mixed_lines = other::lines(mixed.0);
+    let sorted_lines = other::lines(sorted.0);
+    let first = divide(&mixed_lines, pass, mixed.1).map_err(with_name)?;
+    let second = divide(&sorted_lines, pass, sorted.1).map_err(with_name)?;
+    difference("before the pass", first.before, second.before).map_err(with_name)?;
+    for (number, (first, second)) in first.crates.iter().zip(&second.crates).enumerate() {
+        let what =
+            if number < 4 { format!("crate {number}") } else { "crates above 3".to_string() };
+        difference(&what, first, second).map_err(with_name)?;
+    }
+    difference("after the pass", first.after, second.after).map_err(with_name)
+}
+
+/// Serves one pass; gives the number of lines compared.
+fn serve(program: &str, pass: &Pass) -> Result<usize, String> {
+    let mixed: Vec<&Item> = pass.items.iter().collect();
+    let mut sorted = mixed.clone();
+    sorted.sort_by_key(|item| group(item));
+
+    let run_other = |text: &[u8]| -> Result<Vec<u8>, String> {
+        let (printed, status) =
+            other::run(program, text).map_err(|error| format!("cannot run {program}: {error}"))?;
+        if !status.success() {
+            return Err(format!("the other program ended with {status}"));
+        }
+        Ok(printed)
+    };
+    let mixed_text = script(pass, &mixed);
+    let sorted_text = script(pass, &sorted);
+    let (our_mixed, _) = other::model(&mixed_text);
+    let (our_sorted, _) = other::model(&sorted_text);
+    let their_mixed = run_other(&mixed_text)?;
+    let their_sorted = run_other(&sorted_text)?;
+
+    compare_orders(
+        "model, mixed and by crate",
+        pass,
+        (&our_mixed, &mixed),
+        (&our_sorted, &sorted),
+    )?;
+    compare_orders(
+        "other, mixed and by crate",
+        pass,
+        (&their_mixed, &mixed),
+        (&their_sorted, &sorted),
+    )?;
+    difference("mixed, model and other", &other::lines(&our_mixed), &other::lines(&their_mixed))?;
+    difference(
+        "by crate, model and other",
+        &other::lines(&our_sorted),
+        &other::lines(&their_sorted),
+    )?;
+    Ok(other::lines(&our_mixed).len() + other::lines(&our_sorted).len())
+}
+
+fn report(pass: &Pass, number: usize, seed: u64, difference: &str) {
+    let mixed: Vec<&Item> = pass.items.iter().collect();
+    let file = std::env::temp_dir().join(format!("ftm-pass-{seed}-{number}.txt"));
+    let saved = match std::fs::write(&file, script(pass, &mixed)) {
+        Ok(()) => format!("the mixed order is saved as {}", file.display()),
+        Err(error) => format!("not saved as {}: {error}", file.display()),
+    };
+    println!("pass {number}, seed {seed}: {difference}\n  {saved}");
+}
+
+fn main() -> ExitCode {
+    let arguments: Vec<String> = std::env::args().skip(1).collect();
+    let numbers: Option<Vec<u64>> =
+        arguments.iter().skip(1).map(|argument| argument.parse().ok()).collect();
+    let (Some(program), Some(numbers), true) = (arguments.first(), numbers, arguments.len() <= 3)
+    else {
+        eprintln!("usage: orders PATH-TO-OTHER-REPLAY [PASSES [SEED]]");
+        return ExitCode::from(2);
+    };
+    let passes = numbers.first().map_or(PASSES, |&number| number as usize);
+    let seed = numbers.get(1).copied().unwrap_or(SEED);
+
+    let next = AtomicUsize::new(0);
+    let served = AtomicUsize::new(0);
+    let lines = AtomicUsize::new(0);
+    let stop = AtomicBool::new(false);
+    let differences = Mutex::new(0usize);
+    std::thread::scope(|scope| {
+        for _ in 0..AT_ONCE {
+            scope.spawn(|| {
+                while !stop.load(Ordering::Relaxed) {
+                    let number = next.fetch_add(1, Ordering::Relaxed);
+                    if number >= passes {
+                        break;
+                    }
+                    let pass = generate::pass(seed, number);
+                    let result = serve(program, &pass);
+                    served.fetch_add(1, Ordering::Relaxed);
+                    match result {
+                        Ok(count) => {
+                            lines.fetch_add(count, Ordering::Relaxed);
+                        }
+                        Err(difference) => {
+                            let mut differences = differences.lock().expect("no thread panicked");
+                            *differences += 1;
+                            if *differences <= REPORTED {
+                                report(&pass, number, seed, &difference);
+                            }
+                            if *differences >= REPORTED {
+                                stop.store(true, Ordering::Relaxed);
+                            }
+                        }
+                    }
+                }
+            });
+        }
+    });
+
+    let served = served.into_inner();
+    let lines = lines.into_inner();
+    let differences = differences.into_inner().expect("no thread panicked");
+    if differences > 0 || served == 0 {
+        println!("{served} passes in two orders, {lines} lines: {differences} passes differ");
+        return ExitCode::FAILURE;
+    }
+    println!("{served} passes in two orders, {lines} lines: all agree");
+    ExitCode::SUCCESS
+}

@@ -1,0 +1,548 @@
+//! The board: its state, the commands it obeys, the passes over the FTU
+//! boards, the run, and what it sends out.
+
+use crate::blocks::{self, Header, ENTRY, LIST, LIST_ACTIVE, LIST_ENTRIES};
+use crate::commands::{self, Command, Events, ReadBlock};
+use crate::configuration::{self, ACTIVE};
+use crate::frames::{self, Frame};
+use crate::packets::{self, Trigger};
+use crate::{Refusal, BOARDS, BOARDS_PER_CRATE, CRATES, ID_LIMIT};
+
+/// Sends of one step before the board has failed.
+const SENDS: u8 = 3;
+/// Timestamp and on-time have 48 bits.
+const TIME_MASK: u64 = (1 << 48) - 1;
+
+/// What the board is doing (01, Command words).
+#[derive(Clone, Copy, Debug, PartialEq, Eq)]
+pub enum Mode {
+    Idle,
+    Running(Events),
+    Reprogramming,
+    Ping,
+}
+
+/// What was done on a command.
+#[derive(Clone, Copy, Debug, PartialEq, Eq)]
+pub enum Done {
+    Read(ReadBlock),
+    Write,
+    Start,
+    Stop,
+    Ping,
+    /// The crate whose boards the caller resets.
+    Reset(u8),
+}
+
+/// A refused command: why, and the words used.
+#[derive(Clone, Copy, Debug, PartialEq, Eq)]
+pub struct CommandRefused {
+    pub refusal: Refusal,
+    pub used: usize,
+}
+
+/// What came of a reply or a time-up.
+#[derive(Clone, Copy, Debug, PartialEq, Eq)]
+pub enum Outcome {
+    Good,
+    Again,
+    Failed,
+}
+
+/// The answer to a reply or a time-up, with whether the crate is done.
+#[derive(Clone, Copy, Debug, PartialEq, Eq)]
+pub struct Answer {
+    pub outcome: Outcome,
+    pub done: bool,
+}
+
+/// The step that a crate is at.
+#[derive(Clone, Copy, Debug, PartialEq, Eq)]
+struct Step {
+    board: usize,
+    code: u8,
+    sends: u8,
+    frame: Frame,
+}
+
+/// One crate's place in the pass.
+#[derive(Clone, Copy, Debug, Default, PartialEq, Eq)]
+struct Bus {
+    step: Option<Step>,
+    /// Accepted replies and time-ups of this pass.
+    accepted: u32,
+}
+
+/// A board that failed: the calls of the step and its frame.
+#[derive(Clone, Copy, Debug, PartialEq, Eq)]
+struct Failure {
+    calls: u8,
+    frame: Frame,
+}
+
+/// The trigger master board.
+#[derive(Clone, Debug, PartialEq, Eq)]
+pub struct Board {
+    board_id: u64,
+    firmware_id: u16,
+    mode: Mode,
+    fresh: bool,
+    trigger_counter: u32,
+    timestamp: u64,
+    on_time: u64,
+    block: [u16; configuration::WORDS],
+    list: [u16; LIST],
+    failures: [Option<Failure>; BOARDS],
+    buses: [Bus; CRATES],
+}
+
+impl Board {
+    /// A board after power-up; 20 if the board ID is at or above 2^57.
+    pub fn power_up(board_id: u64, firmware_id: u16) -> Result<Board, Refusal> {
+        if board_id >= ID_LIMIT {
+            return Err(Refusal::BoardIdOrSpare);
+        }
+        Ok(Board {
+            board_id,
+            firmware_id,
+            mode: Mode::Idle,
+            fresh: false,
+            trigger_counter: 0,
+            timestamp: 0,
+            on_time: 0,
+            block: [0; configuration::WORDS],
+            list: [0; LIST],
+            failures: [None; BOARDS],
+            buses: [Bus::default(); CRATES],
+        })
+    }
+
+    /// What the board is doing.
+    pub fn mode(&self) -> Mode {
+        self.mode
+    }
+
+    /// Whether the stored block was written after the last start.
+    pub fn fresh(&self) -> bool {
+        self.fresh
+    }
+
+    /// The stored static block.
+    pub fn block(&self) -> &[u16; configuration::WORDS] {
+        &self.block
+    }
+
+    /// Obeys the first command of `words`; gives what was done and the words used.
+    pub fn obey(&mut self, words: &[u16]) -> Result<(Done, usize), CommandRefused> {
+        let (command, used) =
+            commands::read(words).map_err(|refusal| CommandRefused { refusal, used: 0 })?;
+        let done = self.carry_out(&command).map_err(|refusal| CommandRefused { refusal, used })?;
+        Ok((done, used))
+    }
+
+    fn carry_out(&mut self, command: &Command) -> Result<Done, Refusal> {
+        let accepted = match command {
+            Command::Read(_) => true,
+            Command::Stop => matches!(self.mode, Mode::Running(_)),
+            _ => self.mode == Mode::Idle,
+        };
+        if !accepted {
+            return Err(Refusal::NotInThisState);
+        }
+        match *command {
+            Command::Read(block) => Ok(Done::Read(block)),
+            Command::Write(block) => {
+                self.block.copy_from_slice(block);
+                self.fresh = true;
+                self.begin_pass(Mode::Reprogramming);
+                Ok(Done::Write)
+            }
+            Command::Start(events) => {
+                if !self.fresh {
+                    return Err(Refusal::NotFresh);
+                }
+                self.fresh = false;
+                self.zero_counters();
+                self.mode = Mode::Running(events);
+                Ok(Done::Start)
+            }
+            Command::Stop => {
+                self.end_run();
+                Ok(Done::Stop)
+            }
+            Command::Ping => {
+                self.list = [0; LIST];
+                self.list[LIST_ACTIVE..LIST_ENTRIES].copy_from_slice(&self.block[ACTIVE..]);
+                self.begin_pass(Mode::Ping);
+                Ok(Done::Ping)
+            }
+            Command::Reset(crate_number) => Ok(Done::Reset(crate_number)),
+        }
+    }
+
+    fn zero_counters(&mut self) {
+        self.trigger_counter = 0;
+        self.timestamp = 0;
+        self.on_time = 0;
+    }
+
+    fn end_run(&mut self) {
+        self.zero_counters();
+        self.mode = Mode::Idle;
+    }
+
+    /// A clock step.
+    pub fn clock(&mut self, ticks: u32) {
+        self.timestamp = (self.timestamp + u64::from(ticks)) & TIME_MASK;
+        if let Mode::Running(_) = self.mode {
+            self.on_time = (self.on_time + u64::from(ticks)) & TIME_MASK;
+        }
+    }
+
+    /// A trigger: writes its packet into the first seven bytes of `packet`.
+    /// Refuses with 15, 16, 17 or 19.
+    pub fn trigger(&mut self, trigger: &Trigger, packet: &mut [u8]) -> Result<(), Refusal> {
+        trigger.check()?;
+        let Mode::Running(events) = self.mode else {
+            return Err(Refusal::NotRunning);
+        };
+        let number = self.trigger_counter.checked_add(1).ok_or(Refusal::CounterFull)?;
+        packets::write(number, trigger, packet)?;
+        if events == Events::Counted(number) {
+            self.end_run();
+        } else {
+            self.trigger_counter = number;
+        }
+        Ok(())
+    }
+
+    /// Begins a pass: clears the records, and puts each crate at its first step.
+    fn begin_pass(&mut self, mode: Mode) {
+        self.mode = mode;
+        self.failures = [None; BOARDS];
+        for crate_number in 0..CRATES {
+            let step = self.first_step(crate_number, 0);
+            self.buses[crate_number] = Bus { step, accepted: 0 };
+        }
+        self.end_pass_if_done();
+    }
+
+    fn end_pass_if_done(&mut self) {
+        if self.buses.iter().all(|bus| bus.step.is_none()) {
+            self.mode = Mode::Idle;
+        }
+    }
+
+    /// The first step of the first board, from `board` on, that the pass serves.
+    fn first_step(&self, crate_number: usize, board: usize) -> Option<Step> {
+        let ping = self.mode == Mode::Ping;
+        let code = if ping { frames::PING } else { frames::DACS };
+        (board..BOARDS_PER_CRATE)
+            .find(|&board| ping || configuration::is_active(&self.block, crate_number, board))
+            .map(|board| self.step(crate_number, board, code))
+    }
+
+    fn step(&self, crate_number: usize, board: usize, code: u8) -> Step {
+        let frame = frames::for_board(&self.block, crate_number, board, code);
+        Step { board, code, sends: 1, frame }
+    }
+
+    /// A reply of any length from a crate. Refuses with 11 or 12.
+    pub fn reply(&mut self, crate_number: u8, bytes: &[u8]) -> Result<Answer, Refusal> {
+        let (crate_number, step) = self.outstanding_step(crate_number)?;
+        let Some(reply) = frames::good_reply(&step.frame, bytes) else {
+            return Ok(self.missed(crate_number));
+        };
+        let Step { board, code, sends, .. } = *step;
+        let next = match code {
+            frames::DACS | frames::ENABLES => Some(self.step(crate_number, board, code + 1)),
+            frames::PING => {
+                self.enter(crate_number, board, sends, reply);
+                self.first_step(crate_number, board + 1)
+            }
+            _ => self.first_step(crate_number, board + 1),
+        };
+        Ok(self.proceed(crate_number, Outcome::Good, next))
+    }
+
+    /// The time for a reply from a crate is up. Refuses with 11 or 12.
+    pub fn time_up(&mut self, crate_number: u8) -> Result<Answer, Refusal> {
+        let (crate_number, _) = self.outstanding_step(crate_number)?;
+        Ok(self.missed(crate_number))
+    }
+
+    fn outstanding_step(&self, crate_number: u8) -> Result<(usize, &Step), Refusal> {
+        let crate_number = usize::from(crate_number);
+        let bus = self.buses.get(crate_number).ok_or(Refusal::NoSuchCrate)?;
+        let step = bus.step.as_ref().ok_or(Refusal::NothingOutstanding)?;
+        Ok((crate_number, step))
+    }
+
+    /// A bad reply or a time-up: sends again, or the board has failed.
+    fn missed(&mut self, crate_number: usize) -> Answer {
+        let bus = &mut self.buses[crate_number];
+        let step = bus.step.as_mut().expect("a step is outstanding");
+        if step.sends < SENDS {
+            step.sends += 1;
+            bus.accepted += 1;
+            return Answer { outcome: Outcome::Again, done: false };
+        }
+        let board = step.board;
+        let failure = Failure { calls: step.sends, frame: step.frame };
+        self.failures[BOARDS_PER_CRATE * crate_number + board] = Some(failure);
+        let next = self.first_step(crate_number, board + 1);
+        self.proceed(crate_number, Outcome::Failed, next)
+    }
+
+    fn proceed(&mut self, crate_number: usize, outcome: Outcome, next: Option<Step>) -> Answer {
+        let done = next.is_none();
+        let bus = &mut self.buses[crate_number];
+        bus.step = next;
+        bus.accepted += 1;
+        if done {
+            self.end_pass_if_done();
+        }
+        Answer { outcome, done }
+    }
+
+    /// Enters a board that answered into the list (01, Blocks sent out).
+    fn enter(&mut self, crate_number: usize, board: usize, calls: u8, reply: &Frame) {
+        self.list[0] += 1;
+        self.list[1 + crate_number] += 1;
+        let dna = frames::dna(reply);
+        let place = LIST_ENTRIES + ENTRY * (BOARDS_PER_CRATE * crate_number + board);
+        self.list[place..place + ENTRY].copy_from_slice(&[
+            u16::from(frames::address(crate_number, board)) + 256 * u16::from(calls),
+            (dna >> 48) as u16,
+            (dna >> 32) as u16,
+            (dna >> 16) as u16,
+            dna as u16,
+            u16::from(reply[26]),
+        ]);
+    }
+
+    /// The frame outstanding on a crate. Refuses with 11 or 12.
+    pub fn outstanding_frame(&self, crate_number: u8) -> Result<&Frame, Refusal> {
+        self.outstanding_step(crate_number).map(|(_, step)| &step.frame)
+    }
+
+    /// The number of frames sent on a crate in this pass or, outside of a pass,
+    /// in the last one. Refuses with 11.
+    pub fn frames_sent(&self, crate_number: u8) -> Result<u32, Refusal> {
+        let bus = self.buses.get(usize::from(crate_number)).ok_or(Refusal::NoSuchCrate)?;
+        Ok(bus.accepted + u32::from(bus.step.is_some()))
+    }
+
+    /// The header of a block sent now.
+    pub fn header(&self) -> Header {
+        Header {
+            board_id: self.board_id,
+            firmware_id: self.firmware_id,
+            trigger_counter: self.trigger_counter,
+            timestamp: self.timestamp,
+        }
+    }
+
+    /// Writes the static block. Refuses with 19.
+    pub fn static_block(&self, out: &mut [u16]) -> Result<usize, Refusal> {
+        blocks::write_static(&self.header(), &self.block, out)
+    }
+
+    /// Writes a dynamic block with these measurements. Refuses with 6, 8 or 19.
+    pub fn dynamic_block(&self, measurements: &[u16], out: &mut [u16]) -> Result<usize, Refusal> {
+        blocks::write_dynamic(&self.header(), self.on_time, measurements, out)
+    }
+
+    /// Writes the FTU list. Refuses with 9 or 19.
+    pub fn ftu_list(&self, out: &mut [u16]) -> Result<usize, Refusal> {
+        self.check_no_pass()?;
+        blocks::write_list(&self.header(), &self.list, out)
+    }
+
+    /// Writes the failure message of this ordinal, from 0 in rising k. Refuses
+    /// with 9, 18 or 19.
+    pub fn failure_message(&self, ordinal: usize, out: &mut [u16]) -> Result<usize, Refusal> {
+        self.check_no_pass()?;
+        let failure = self.failures.iter().flatten().nth(ordinal).ok_or(Refusal::NoSuchRecord)?;
+        blocks::write_failure(&self.header(), u16::from(failure.calls), &failure.frame, out)
+    }
+
+    fn check_no_pass(&self) -> Result<(), Refusal> {
+        match self.mode {
+            Mode::Reprogramming | Mode::Ping => Err(Refusal::NotInThisState),
+            Mode::Idle | Mode::Running(_) => Ok(()),
+        }
+    }
+}
+
+#[cfg(test)]
+mod tests {
+    use super::*;
+    use crate::crc::crc8;
+
+    fn write_words(edit: impl Fn(&mut [u16])) -> Vec<u16> {
+        let mut words = vec![0u16; 441];
+        words[..5].copy_from_slice(&[0x40, 2, 1, 0, 0]);
+        edit(&mut words[5..]);
+        words
+    }
+
+    fn good(board: &Board, crate_number: u8) -> Frame {
+        let mut reply = *board.outstanding_frame(crate_number).unwrap();
+        reply.swap(1, 2);
+        reply[27] = crc8(&reply[..27]);
+        reply
+    }
+
+    const START: [u16; 5] = [0x40, 4, 1, 0, 0];
+    const STOP: [u16; 5] = [0x40, 8, 0, 0, 0];
+    const PING: [u16; 5] = [0x40, 0x10, 0, 0, 0];
+
+    #[test]
+    fn silent_board_gets_three_frames() {
+        let mut board = Board::power_up(1, 2).unwrap();
+        let words = write_words(|block| block[0x1B2] = 1 << 4);
+        assert_eq!(board.obey(&words), Ok((Done::Write, 441)));
+        assert_eq!(board.obey(&START).unwrap_err().refusal, Refusal::NotInThisState);
+        let again = Answer { outcome: Outcome::Again, done: false };
+        let failed = Answer { outcome: Outcome::Failed, done: true };
+        assert_eq!(board.time_up(2), Ok(again));
+        assert_eq!(board.reply(2, &[]), Ok(again));
+        assert_eq!(board.failure_message(0, &mut [0; 40]), Err(Refusal::NotInThisState));
+        assert_eq!(board.time_up(2), Ok(failed));
+        assert_eq!(board.frames_sent(2), Ok(3));
+        assert_eq!(board.frames_sent(0), Ok(0));
+        assert_eq!(board.time_up(2), Err(Refusal::NothingOutstanding));
+        assert_eq!(board.time_up(4), Err(Refusal::NoSuchCrate));
+        let mut out = [0; 40];
+        assert_eq!(board.failure_message(0, &mut out), Ok(40));
+        assert_eq!(out[11..17], [3, 0x40, 0x24, 192, 0, 1]);
+        assert_eq!(board.failure_message(1, &mut out), Err(Refusal::NoSuchRecord));
+        assert_eq!(board.mode(), Mode::Idle);
+    }
+
+    #[test]
+    fn third_try_good_gets_nine_frames() {
+        let mut board = Board::power_up(1, 2).unwrap();
+        board.obey(&write_words(|block| block[0x1B0] = 1 << 9)).unwrap();
+        for step in 0..3 {
+            board.time_up(0).unwrap();
+            board.time_up(0).unwrap();
+            let reply = good(&board, 0);
+            assert_eq!(reply[4], step + 1);
+            let answer = board.reply(0, &reply).unwrap();
+            assert_eq!(answer, Answer { outcome: Outcome::Good, done: step == 2 });
+        }
+        assert_eq!(board.frames_sent(0), Ok(9));
+        assert_eq!(board.mode(), Mode::Idle);
+    }
+
+    #[test]
+    fn no_active_board_is_idle_at_once() {
+        let mut board = Board::power_up(1, 2).unwrap();
+        board.obey(&write_words(|_| ())).unwrap();
+        assert_eq!(board.mode(), Mode::Idle);
+        assert_eq!(board.obey(&START), Ok((Done::Start, 5)));
+        assert_eq!(board.obey(&START).unwrap_err().refusal, Refusal::NotInThisState);
+        assert_eq!(board.obey(&STOP), Ok((Done::Stop, 5)));
+        assert_eq!(board.obey(&START).unwrap_err().refusal, Refusal::NotFresh);
+    }
+
+    #[test]
+    fn counted_run_ends_with_zero_counters() {
+        let mut board = Board::power_up(1, 2).unwrap();
+        board.obey(&write_words(|_| ())).unwrap();
+        assert_eq!(board.obey(&[0x40, 4, 2, 0, 0, 0, 2, 9]), Ok((Done::Start, 7)));
+        board.clock(7);
+        let trigger = Trigger::default();
+        let mut packet = [0; 8];
+        assert_eq!(board.trigger(&trigger, &mut packet[..6]), Err(Refusal::OutputTooShort));
+        board.trigger(&trigger, &mut packet).unwrap();
+        assert_eq!(packet[0], 1);
+        assert_eq!((board.trigger_counter, board.timestamp, board.on_time), (1, 7, 7));
+        board.trigger(&trigger, &mut packet).unwrap();
+        assert_eq!(packet[0], 2);
+        assert_eq!((board.trigger_counter, board.timestamp, board.on_time), (0, 0, 0));
+        assert_eq!(board.trigger(&trigger, &mut packet), Err(Refusal::NotRunning));
+        let wide = Trigger { n: 41, ..trigger };
+        assert_eq!(board.trigger(&wide, &mut packet), Err(Refusal::PacketField));
+        board.clock(7);
+        assert_eq!((board.timestamp, board.on_time), (7, 0));
+    }
+
+    #[test]
+    fn full_counter() {
+        let mut board = Board::power_up(1, 2).unwrap();
+        board.obey(&write_words(|_| ())).unwrap();
+        board.obey(&START).unwrap();
+        board.trigger_counter = u32::MAX - 1;
+        let mut packet = [0; 7];
+        board.trigger(&Trigger::default(), &mut packet).unwrap();
+        assert_eq!(packet[..4], [0xFF; 4]);
+        assert_eq!(board.trigger(&Trigger::default(), &mut packet), Err(Refusal::CounterFull));
+    }
+
+    #[test]
+    fn time_wraps() {
+        let mut board = Board::power_up(1, 2).unwrap();
+        board.timestamp = TIME_MASK;
+        board.clock(1);
+        assert_eq!(board.timestamp, 0);
+    }
+
+    #[test]
+    fn ping_fills_the_list() {
+        let mut board = Board::power_up(1, 2).unwrap();
+        board.obey(&write_words(|block| block[0x1B1] = 0)).unwrap();
+        board.obey(&PING).unwrap();
+        for crate_number in [3u8, 1, 0, 2] {
+            for number in 0..10u8 {
+                if number == 4 {
+                    for _ in 0..3 {
+                        board.time_up(crate_number).unwrap();
+                    }
+                    continue;
+                }
+                if number == 5 {
+                    board.time_up(crate_number).unwrap();
+                }
+                let mut reply = good(&board, crate_number);
+                reply[12] = number;
+                reply[26] = 0xEE;
+                reply[27] = crc8(&reply[..27]);
+                board.reply(crate_number, &reply).unwrap();
+            }
+        }
+        assert_eq!(board.mode(), Mode::Idle);
+        let mut out = [0; 260];
+        board.ftu_list(&mut out).unwrap();
+        let list = &out[11..];
+        assert_eq!(list[..9], [36, 9, 9, 9, 9, 0, 0, 0, 0]);
+        let entry = |k: usize| &list[9 + 6 * k..15 + 6 * k];
+        assert_eq!(entry(34), [0; 6]);
+        assert_eq!(entry(35), [0x35 + 512, 0, 0, 0, 5, 0xEE]);
+        assert_eq!(entry(0), [256, 0, 0, 0, 0, 0xEE]);
+        assert_eq!(board.frames_sent(1), Ok(13));
+        let mut message = [0; 40];
+        for crate_number in 0..4 {
+            board.failure_message(crate_number, &mut message).unwrap();
+            assert_eq!(message[13], 16 * crate_number as u16 + 4);
+        }
+    }
+
+    #[test]
+    fn refusals_change_nothing() {
+        let mut board = Board::power_up(1, 2).unwrap();
+        board.obey(&PING).unwrap();
+        board.clock(5);
+        let before = board.clone();
+        assert!(board.obey(&write_words(|_| ())).is_err());
+        assert!(board.obey(&write_words(|block| block[435] = 0xFFFF)).is_err());
+        assert!(board.obey(&STOP).is_err());
+        assert!(board.obey(&PING).is_err());
+        assert!(board.trigger(&Trigger::default(), &mut [0; 7]).is_err());
+        assert!(board.reply(4, &[]).is_err());
+        assert!(board.ftu_list(&mut [0; 260]).is_err());
+        assert_eq!(board, before);
+    }
+}

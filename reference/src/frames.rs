@@ -1,0 +1,143 @@
+//! Slow-control frames of 28 bytes (01, Slow control).
+
+use crate::{configuration, crc::crc8, ID_LIMIT};
+
+/// Bytes of a frame.
+pub const BYTES: usize = 28;
+/// A frame or a reply of the right length.
+pub type Frame = [u8; BYTES];
+/// The first byte of every frame.
+pub const DELIMITER: u8 = 0x40;
+/// The trigger master's own address.
+pub const OUR_ADDRESS: u8 = 192;
+
+/// Code of the frame with the five DACs.
+pub const DACS: u8 = 1;
+/// Code of the frame with the four enables.
+pub const ENABLES: u8 = 2;
+/// Code of the frame with the prescaling.
+pub const PRESCALING: u8 = 3;
+/// Code of a ping.
+pub const PING: u8 = 4;
+
+/// Address of board `board` of crate `crate_number`.
+pub fn address(crate_number: usize, board: usize) -> u8 {
+    (16 * crate_number + board) as u8
+}
+
+/// The frame with `code` for one board: `words` are the board's ten words.
+pub fn write(crate_number: usize, board: usize, code: u8, words: &[u16]) -> Frame {
+    let data = match code {
+        DACS => &words[4..9],
+        ENABLES => &words[0..4],
+        PRESCALING => &words[9..10],
+        _ => &words[..0],
+    };
+    let mut frame = [0; BYTES];
+    frame[0] = DELIMITER;
+    frame[1] = address(crate_number, board);
+    frame[2] = OUR_ADDRESS;
+    frame[4] = code;
+    for (place, word) in data.iter().enumerate() {
+        frame[5 + 2 * place..7 + 2 * place].copy_from_slice(&word.to_be_bytes());
+    }
+    frame[27] = crc8(&frame[..27]);
+    frame
+}
+
+/// The same for a board of the stored block.
+pub fn for_board(
+    block: &[u16; configuration::WORDS],
+    crate_number: usize,
+    board: usize,
+    code: u8,
+) -> Frame {
+    let words = configuration::board_words(block, crate_number, board);
+    write(crate_number, board, code, words)
+}
+
+/// The DNA in a reply to a ping: bytes 5 to 12, high first.
+pub fn dna(reply: &Frame) -> u64 {
+    let mut bytes = [0; 8];
+    bytes.copy_from_slice(&reply[5..13]);
+    u64::from_be_bytes(bytes)
+}
+
+/// The reply as a frame if it is a good one to `sent`: 28 bytes, byte 0, the
+/// addresses exchanged, the same code, a right CRC, and the data as sent or,
+/// for a ping, a DNA below 2^57 and zeros. Bytes 3 and 26 are the FTU's own.
+pub fn good_reply<'a>(sent: &Frame, reply: &'a [u8]) -> Option<&'a Frame> {
+    let reply: &Frame = reply.try_into().ok()?;
+    let head = reply[0] == DELIMITER
+        && reply[1] == sent[2]
+        && reply[2] == sent[1]
+        && reply[4] == sent[4]
+        && reply[27] == crc8(&reply[..27]);
+    let data = if sent[4] == PING {
+        dna(reply) < ID_LIMIT && reply[13..26].iter().all(|&byte| byte == 0)
+    } else {
+        reply[5..26] == sent[5..26]
+    };
+    (head && data).then_some(reply)
+}
+
+#[cfg(test)]
+mod tests {
+    use super::*;
+
+    fn exchange(sent: &Frame) -> Frame {
+        let mut reply = *sent;
+        reply.swap(1, 2);
+        reply[27] = crc8(&reply[..27]);
+        reply
+    }
+
+    #[test]
+    fn layout() {
+        let words = [1, 2, 3, 0x0405, 0x1011, 0x1213, 0x1415, 0x1617, 0x1819, 0xABCD];
+        let frame = write(2, 3, DACS, &words);
+        assert_eq!(frame[..5], [0x40, 0x23, 192, 0, 1]);
+        assert_eq!(frame[5..15], [0x10, 0x11, 0x12, 0x13, 0x14, 0x15, 0x16, 0x17, 0x18, 0x19]);
+        assert!(frame[15..27].iter().all(|&byte| byte == 0));
+        assert_eq!(frame[27], crc8(&frame[..27]));
+        let frame = write(0, 0, ENABLES, &words);
+        assert_eq!(frame[5..14], [0, 1, 0, 2, 0, 3, 4, 5, 0]);
+        let frame = write(0, 0, PRESCALING, &words);
+        assert_eq!(frame[5..8], [0xAB, 0xCD, 0]);
+        let frame = write(3, 9, PING, &words);
+        assert_eq!(frame[..5], [0x40, 57, 192, 0, 4]);
+        assert!(frame[5..27].iter().all(|&byte| byte == 0));
+    }
+
+    #[test]
+    fn every_byte_matters_but_two() {
+        let sent = write(1, 7, ENABLES, &[9, 8, 7, 6, 5, 4, 3, 2, 1, 0]);
+        let reply = exchange(&sent);
+        assert!(good_reply(&sent, &reply).is_some());
+        assert!(good_reply(&sent, &sent).is_none());
+        assert!(good_reply(&sent, &reply[..27]).is_none());
+        for place in 0..27 {
+            let mut changed = reply;
+            changed[place] ^= 0x10;
+            assert!(good_reply(&sent, &changed).is_none());
+            changed[27] = crc8(&changed[..27]);
+            assert_eq!(good_reply(&sent, &changed).is_some(), place == 3 || place == 26);
+        }
+    }
+
+    #[test]
+    fn dna_bound() {
+        let sent = write(1, 7, PING, &[0; 10]);
+        let mut reply = exchange(&sent);
+        reply[5..13].copy_from_slice(&(ID_LIMIT - 1).to_be_bytes());
+        reply[27] = crc8(&reply[..27]);
+        assert_eq!(good_reply(&sent, &reply).map(dna), Some(ID_LIMIT - 1));
+        reply[5..13].copy_from_slice(&ID_LIMIT.to_be_bytes());
+        reply[27] = crc8(&reply[..27]);
+        assert!(good_reply(&sent, &reply).is_none());
+        reply[5..13].fill(0);
+        reply[13] = 1;
+        reply[27] = crc8(&reply[..27]);
+        assert!(good_reply(&sent, &reply).is_none());
+    }
+}

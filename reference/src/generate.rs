@@ -1,0 +1,1138 @@
+//! The generator of scripts: families of scripts, each determined by a seed
+//! and a number. The model runs beside the generator, so that scripts can
+//! answer the frames that are outstanding.
+
+use crate::board::{Board, Mode};
+use crate::commands::{self, Command, Events, ReadBlock};
+use crate::configuration::{self, ACTIVE};
+use crate::crc::crc8;
+use crate::frames::{self, Frame};
+use crate::replay::{Replay, MAX_DIGITS};
+use crate::{blocks, BOARDS, BOARDS_PER_CRATE, CRATES, ID_LIMIT};
+
+/// The splitmix64 random number generator.
+pub struct Random(u64);
+
+impl Random {
+    pub fn new(seed: u64) -> Random {
+        Random(seed)
+    }
+
+    pub fn number(&mut self) -> u64 {
+        self.0 = self.0.wrapping_add(0x9E37_79B9_7F4A_7C15);
+        let mut z = self.0;
+        z = (z ^ (z >> 30)).wrapping_mul(0xBF58_476D_1CE4_E5B9);
+        z = (z ^ (z >> 27)).wrapping_mul(0x94D0_49BB_1331_11EB);
+        z ^ (z >> 31)
+    }
+
+    /// A number below `limit`.
+    pub fn below(&mut self, limit: usize) -> usize {
+        (self.number() % limit as u64) as usize
+    }
+
+    pub fn chance(&mut self, percent: usize) -> bool {
+        self.below(100) < percent
+    }
+
+    pub fn choose<T: Copy>(&mut self, values: &[T]) -> T {
+        values[self.below(values.len())]
+    }
+
+    pub fn byte(&mut self) -> u8 {
+        self.number() as u8
+    }
+
+    pub fn word(&mut self) -> u16 {
+        self.number() as u16
+    }
+
+    /// An index, by weights.
+    fn weighted(&mut self, weights: &[usize]) -> usize {
+        let mut value = self.below(weights.iter().sum());
+        for (index, &weight) in weights.iter().enumerate() {
+            if value < weight {
+                return index;
+            }
+            value -= weight;
+        }
+        unreachable!("the value is below the sum of the weights")
+    }
+}
+
+const DIGITS: &[u8; 16] = b"0123456789ABCDEF";
+
+fn push_byte(line: &mut Vec<u8>, byte: u8) {
+    line.push(DIGITS[usize::from(byte >> 4)]);
+    line.push(DIGITS[usize::from(byte & 0x0F)]);
+}
+
+/// A line of a letter and bytes.
+pub fn bytes_line(letter: u8, bytes: &[u8]) -> Vec<u8> {
+    let mut line = vec![letter];
+    for &byte in bytes {
+        push_byte(&mut line, byte);
+    }
+    line
+}
+
+/// A line of a letter and words.
+pub fn words_line(letter: u8, words: &[u16]) -> Vec<u8> {
+    let mut line = vec![letter];
+    for &word in words {
+        push_byte(&mut line, (word >> 8) as u8);
+        push_byte(&mut line, word as u8);
+    }
+    line
+}
+
+/// A line of a letter, a crate byte and a reply's bytes.
+fn reply_line(crate_number: u8, reply: &[u8]) -> Vec<u8> {
+    let mut line = bytes_line(b'R', &[crate_number]);
+    for &byte in reply {
+        push_byte(&mut line, byte);
+    }
+    line
+}
+
+/// A line of a command.
+pub fn command_line(command: &Command) -> Vec<u8> {
+    let mut words = [0; commands::HEAD + configuration::WORDS];
+    let used = commands::write(command, &mut words).expect("the command is valid");
+    words_line(b'C', &words[..used])
+}
+
+/// A power-up line.
+fn power_up_line(board_id: u64, firmware_id: u16) -> Vec<u8> {
+    let mut line = bytes_line(b'P', &board_id.to_be_bytes());
+    for byte in firmware_id.to_be_bytes() {
+        push_byte(&mut line, byte);
+    }
+    line
+}
+
+/// A script while it is made, with the model that has obeyed it so far.
+struct Script {
+    text: Vec<u8>,
+    replay: Replay,
+    answers: Vec<u8>,
+}
+
+impl Script {
+    fn new() -> Script {
+        Script { text: Vec::new(), replay: Replay::new(), answers: Vec::new() }
+    }
+
+    fn board(&self) -> &Board {
+        self.replay.board()
+    }
+
+    fn mode(&self) -> Mode {
+        self.board().mode()
+    }
+
+    fn in_pass(&self) -> bool {
+        matches!(self.mode(), Mode::Reprogramming | Mode::Ping)
+    }
+
+    /// Adds a line; it may have line feeds inside.
+    fn push(&mut self, line: &[u8]) {
+        for part in line.split(|&byte| byte == b'\n') {
+            self.answers.clear();
+            self.replay.line(part, &mut self.answers);
+        }
+        self.text.extend_from_slice(line);
+        self.text.push(b'\n');
+    }
+
+    /// Adds a line, now and then with spaces and small digits.
+    fn push_styled(&mut self, random: &mut Random, line: &[u8]) {
+        if random.chance(92) {
+            return self.push(line);
+        }
+        let mut styled = vec![line[0]];
+        for &byte in &line[1..] {
+            if random.chance(20) {
+                styled.resize(styled.len() + 1 + random.below(3), b' ');
+            }
+            styled.push(if random.chance(50) { byte.to_ascii_lowercase() } else { byte });
+        }
+        if random.chance(30) {
+            styled.push(b' ');
+        }
+        self.push(&styled);
+    }
+
+    fn command(&mut self, command: &Command) {
+        self.push(&command_line(command));
+    }
+
+    /// Lets the boards time out until no pass is under way.
+    fn run_out(&mut self) {
+        for crate_number in 0..CRATES as u8 {
+            while self.board().outstanding_frame(crate_number).is_ok() {
+                self.push(&bytes_line(b'T', &[crate_number]));
+            }
+        }
+    }
+}
+
+/// A block within its bounds.
+fn random_block(random: &mut Random) -> [u16; configuration::WORDS] {
+    let mut block = [0; configuration::WORDS];
+    let few = random.chance(30);
+    for (place, word) in block.iter_mut().enumerate() {
+        if few && random.chance(80) {
+            continue;
+        }
+        let bound = configuration::bound(place);
+        *word = if random.chance(10) { bound } else { random.word() & bound };
+    }
+    let kind = random.below(6);
+    for crate_number in 0..CRATES {
+        block[ACTIVE + crate_number] = match kind {
+            0 => 0,
+            1 => 0x03FF,
+            2 => random.word() & 0x03FF,
+            3 => 1 << random.below(BOARDS_PER_CRATE),
+            4 => random.word() & random.word() & 0x03FF,
+            _ => {
+                let one = 1 << random.below(BOARDS_PER_CRATE);
+                let some = random.word() & 0x03FF;
+                random.choose(&[0, one, some, 0x03FF])
+            }
+        };
+    }
+    if random.chance(10) {
+        block[ACTIVE..].fill(0);
+        let crate_number = random.below(CRATES);
+        block[ACTIVE + crate_number] = 1 << random.below(BOARDS_PER_CRATE);
+    }
+    block
+}
+
+/// A block of which few or no boards are active, for short passes.
+fn quiet_block(random: &mut Random) -> [u16; configuration::WORDS] {
+    let mut block = random_block(random);
+    block[ACTIVE..].fill(0);
+    if random.chance(50) {
+        for _ in 0..1 + random.below(2) {
+            let crate_number = random.below(CRATES);
+            block[ACTIVE + crate_number] |= 1 << random.below(BOARDS_PER_CRATE);
+        }
+    }
+    block
+}
+
+/// Measurements within their bounds.
+fn random_measurements(random: &mut Random) -> [u16; blocks::MEASUREMENTS] {
+    let mut words = [0; blocks::MEASUREMENTS];
+    for (place, word) in words.iter_mut().enumerate() {
+        *word = random.word();
+        if place >= 4 && (place - 4) % 12 < 10 && (place - 4) % 2 == 0 {
+            *word &= 0x3FFF;
+        }
+    }
+    words
+}
+
+/// A crate byte, mostly of a crate that there is.
+fn crate_byte(random: &mut Random) -> u8 {
+    match random.below(40) {
+        0 => 4,
+        1 => 255,
+        2 => random.byte(),
+        _ => random.below(CRATES) as u8,
+    }
+}
+
+/// A good reply to `sent`.
+fn good_reply(random: &mut Random, sent: &Frame) -> Frame {
+    let mut reply = *sent;
+    reply.swap(1, 2);
+    if sent[4] == frames::PING {
+        let dna = match random.below(8) {
+            0 => 0,
+            1 => ID_LIMIT - 1,
+            _ => random.number() % ID_LIMIT,
+        };
+        reply[5..13].copy_from_slice(&dna.to_be_bytes());
+    }
+    if random.chance(60) {
+        reply[3] = random.byte();
+    }
+    if random.chance(60) {
+        reply[26] = random.byte();
+    }
+    mend(&mut reply);
+    reply
+}
+
+/// Makes the CRC right.
+fn mend(reply: &mut Frame) {
+    reply[27] = crc8(&reply[..27]);
+}
+
+/// The frame that a reply from this crate is made for: the outstanding one, or
+/// one of another time where there is none.
+fn frame_for(random: &mut Random, board: &Board, crate_number: u8) -> Frame {
+    match board.outstanding_frame(crate_number) {
+        Ok(frame) => *frame,
+        Err(_) => {
+            let crate_number = usize::from(crate_number) % CRATES;
+            let code =
+                random.choose(&[frames::DACS, frames::ENABLES, frames::PRESCALING, frames::PING]);
+            frames::for_board(board.block(), crate_number, random.below(BOARDS_PER_CRATE), code)
+        }
+    }
+}
+
+/// A reply that is probably bad: one thing is wrong in an otherwise good one.
+fn odd_reply(random: &mut Random, board: &Board, crate_number: u8) -> Vec<u8> {
+    let sent = frame_for(random, board, crate_number);
+    let good = good_reply(random, &sent);
+    let mut reply = good;
+    match random.below(14) {
+        // One byte changed, the CRC left.
+        0 => reply[random.below(28)] ^= 1 << random.below(8),
+        1 => reply[random.below(28)] = random.byte(),
+        // One byte changed, the CRC made right again.
+        2 | 3 => {
+            reply[random.below(27)] ^= 1 << random.below(8);
+            mend(&mut reply);
+        }
+        4 => {
+            reply[random.below(27)] = random.byte();
+            mend(&mut reply);
+        }
+        // Another length.
+        5 => {
+            let mut longer = good.to_vec();
+            if random.chance(30) {
+                longer.truncate(random.below(28));
+            } else if random.chance(50) {
+                longer.truncate(27);
+                let crc = crc8(&longer[..26]);
+                longer[26] = crc;
+            } else {
+                longer.resize(29 + random.below(4), 0);
+                if random.chance(50) {
+                    let last = longer.len() - 1;
+                    longer[last] = crc8(&longer[..last]);
+                }
+            }
+            return longer;
+        }
+        // Addresses not exchanged.
+        6 => {
+            reply.swap(1, 2);
+            mend(&mut reply);
+        }
+        // Another code.
+        7 => {
+            reply[4] = random.choose(&[0, 1, 2, 3, 4, 5, 255]);
+            mend(&mut reply);
+        }
+        // Data of another step, or of another board.
+        8 => {
+            let code =
+                random.choose(&[frames::DACS, frames::ENABLES, frames::PRESCALING, frames::PING]);
+            let crate_of = random.below(CRATES);
+            let number = random.below(BOARDS_PER_CRATE);
+            let other = frames::for_board(board.block(), crate_of, number, code);
+            reply[5..26].copy_from_slice(&other[5..26]);
+            mend(&mut reply);
+        }
+        // A whole reply of another step of this board.
+        9 => {
+            let code =
+                random.choose(&[frames::DACS, frames::ENABLES, frames::PRESCALING, frames::PING]);
+            let number = usize::from(sent[1] & 15) % BOARDS_PER_CRATE;
+            let crate_of = usize::from(sent[1] >> 4) % CRATES;
+            let other = frames::for_board(board.block(), crate_of, number, code);
+            reply = good_reply(random, &other);
+        }
+        // A DNA at its bound, or bytes after it.
+        10 => {
+            let dna = random.choose(&[ID_LIMIT - 1, ID_LIMIT, ID_LIMIT + 1, u64::MAX, 1 << 63]);
+            reply[5..13].copy_from_slice(&dna.to_be_bytes());
+            mend(&mut reply);
+        }
+        11 => {
+            reply[13 + random.below(13)] = 1 << random.below(8);
+            mend(&mut reply);
+        }
+        // A board of another crate, or another board of this one.
+        12 => {
+            if random.chance(50) {
+                reply[2] = (reply[2] + 16 * (1 + random.below(3)) as u8) & 63;
+            } else {
+                reply[2] = reply[2] & 0xF0 | random.below(BOARDS_PER_CRATE) as u8;
+            }
+            mend(&mut reply);
+        }
+        // Something else altogether.
+        _ => {
+            let length = random.choose(&[0, 1, 27, 28, 28, 28, 29, 60]);
+            let mut other: Vec<u8> = (0..length).map(|_| random.byte()).collect();
+            if random.chance(30) {
+                other.fill(0);
+            }
+            return other;
+        }
+    }
+    reply.to_vec()
+}
+
+/// An item of a pass: a crate with a reply, or with a time-up.
+pub struct Item {
+    pub crate_number: u8,
+    pub reply: Option<Vec<u8>>,
+}
+
+impl Item {
+    pub fn line(&self) -> Vec<u8> {
+        match &self.reply {
+            Some(reply) => reply_line(self.crate_number, reply),
+            None => bytes_line(b'T', &[self.crate_number]),
+        }
+    }
+}
+
+/// An item for this crate: a good reply in `good` of 100 cases.
+fn item(random: &mut Random, board: &Board, crate_number: u8, good: usize) -> Item {
+    let reply = if random.chance(good) {
+        let sent = frame_for(random, board, crate_number);
+        Some(good_reply(random, &sent).to_vec())
+    } else if random.chance(30) {
+        None
+    } else {
+        Some(odd_reply(random, board, crate_number))
+    };
+    Item { crate_number, reply }
+}
+
+/// A finished script.
+pub struct Generated {
+    pub family: &'static str,
+    /// The script's number within its family.
+    pub index: usize,
+    pub text: Vec<u8>,
+}
+
+/// Script `number` of the series with this seed.
+pub fn script(seed: u64, number: usize) -> Generated {
+    let mut random = Random::new(seed ^ (number as u64 + 1).wrapping_mul(0xD134_2543_DE82_EF95));
+    let group = number / 8;
+    let (family, index, make): (_, _, fn(&mut Random, usize) -> Vec<u8>) = match number % 8 {
+        0 => ("lengths", group, lengths),
+        1 => ("damaged", group, damaged),
+        2 => ("bounds", group, bounds),
+        3 | 4 => ("sessions", 2 * group + number % 8 - 3, sessions),
+        5 | 6 => ("passes", 2 * group + number % 8 - 5, passes),
+        _ => ("runs", group, runs),
+    };
+    Generated { family, index, text: make(&mut random, index) }
+}
+
+/// Puts the board into one of its states.
+fn enter_some_state(random: &mut Random, script: &mut Script) {
+    script.push(&power_up_line(random.number() % ID_LIMIT, random.word()));
+    let mut block = quiet_block(random);
+    match random.below(5) {
+        0 => {}
+        1 => {
+            block[ACTIVE..].fill(0);
+            script.command(&Command::Write(&block));
+        }
+        2 => {
+            block[ACTIVE..].fill(0);
+            script.command(&Command::Write(&block));
+            script.command(&Command::Start(Events::Endless));
+        }
+        3 => {
+            block[ACTIVE] = 0x0201;
+            script.command(&Command::Write(&block));
+        }
+        _ => script.command(&Command::Ping),
+    }
+}
+
+/// Every length: commands, replies, measurements and lines.
+fn lengths(random: &mut Random, index: usize) -> Vec<u8> {
+    let mut script = Script::new();
+    let part = index / 5;
+    match index % 5 {
+        0 | 1 => command_lengths(random, &mut script, 2 * part + index % 5),
+        2 => reply_lengths(random, &mut script),
+        3 => digit_counts(random, &mut script, part),
+        _ => measurement_lengths(random, &mut script, part),
+    }
+    script.text
+}
+
+/// A valid command cut at, and extended to, the lengths `part` stands for.
+fn command_lengths(random: &mut Random, script: &mut Script, part: usize) {
+    let block = random_block(random);
+    let events = random.choose(&[1, 2, 70_000, 0xFFFF_FFFF, 0x0001_0000]);
+    let kinds = [
+        Command::Read(ReadBlock::Static),
+        Command::Read(ReadBlock::Dynamic),
+        Command::Write(&block),
+        Command::Start(Events::Endless),
+        Command::Start(Events::Counted(events)),
+        Command::Stop,
+        Command::Ping,
+        Command::Reset(0),
+        Command::Reset(1),
+        Command::Reset(2),
+        Command::Reset(3),
+    ];
+    let command = &kinds[part % kinds.len()];
+    let stride = 10;
+    let mut whole = [0u16; 460];
+    let used = commands::write(command, &mut whole).expect("the command is valid");
+    if random.chance(70) {
+        whole[used..].fill_with(|| random.word());
+    }
+    for length in (part / kinds.len() % stride..=450).step_by(stride) {
+        if random.chance(40) {
+            enter_some_state(random, script);
+        }
+        script.push(&words_line(b'C', &whole[..length]));
+    }
+    for events in [0, 1, 70_000, 0xFFFF_FFFFu32] {
+        enter_some_state(random, script);
+        let words = [0x40, 4, 2, 0, 0, (events >> 16) as u16, events as u16, 0x40];
+        script.push(&words_line(b'C', &words[..7 + random.below(2)]));
+        script.push(b"G0000000000000000");
+        script.push(b"G2801010101010101");
+    }
+}
+
+/// Replies of 0 to 60 bytes: the good one cut or extended.
+fn reply_lengths(random: &mut Random, script: &mut Script) {
+    for ping in [false, true] {
+        let mut block = random_block(random);
+        block[ACTIVE..].fill(0x03FF);
+        script.push(&power_up_line(random.number() % ID_LIMIT, random.word()));
+        script.command(&Command::Write(&block));
+        if ping {
+            script.run_out();
+            script.command(&Command::Ping);
+        }
+        for length in 0..=60 {
+            let crate_number = (length % CRATES) as u8;
+            let sent = frame_for(random, script.board(), crate_number);
+            let mut reply = good_reply(random, &sent).to_vec();
+            reply.resize(length, 0);
+            if length > 28 && random.chance(50) {
+                reply[28..].fill_with(|| random.byte());
+            }
+            if length > 0 && random.chance(30) {
+                reply[length - 1] = crc8(&reply[..length - 1]);
+            }
+            script.push(&reply_line(crate_number, &reply));
+            script.push(&bytes_line(b'F', &[crate_number]));
+            script.push(&bytes_line(b'N', &[crate_number]));
+        }
+        script.push(&reply_line(4, &[0; 28]));
+        script.push(b"R");
+        script.push(b"R0");
+        script.push(b"R00");
+        script.push(b"R000");
+    }
+}
+
+/// Every letter with many counts of digits.
+fn digit_counts(random: &mut Random, script: &mut Script, part: usize) {
+    enter_some_state(random, script);
+    let mut digits = |count: usize, zero: bool| -> Vec<u8> {
+        (0..count)
+            .map(|_| if zero { b'0' } else { random.choose(b"0123456789abcdefABCDEF") })
+            .collect()
+    };
+    for letter in *b"GPKTFNMSLDCR" {
+        for count in 0..=48 {
+            let line = [&[letter][..], &digits(count, (count + part).is_multiple_of(2))].concat();
+            script.push(&line);
+        }
+        for count in [63, 64, 65, 127, 128, 255, 256, 257, 511, 512, 1023, 1024, 1935, 1936, 1937] {
+            script.push(&[&[letter][..], &digits(count, part.is_multiple_of(2))].concat());
+        }
+    }
+    let longest = MAX_DIGITS;
+    for letter in b'A'..=b'Z' {
+        if usize::from(letter) % 4 != part % 4 && !b"CDR".contains(&letter) {
+            continue;
+        }
+        for count in
+            [longest - 4, longest - 2, longest - 1, longest, longest + 1, longest + 2, longest + 4]
+        {
+            script.push(&[&[letter][..], &digits(count, part.is_multiple_of(2))].concat());
+        }
+    }
+    for letter in 0..=255u8 {
+        if letter != b'\n' {
+            script.push(&[letter]);
+            script.push(&[letter, b'0', b'0']);
+        }
+    }
+    script.push(&vec![b' '; 5000]);
+    script.push(&[b"K0000".to_vec(), vec![b' '; 9000], b"0001".to_vec()].concat());
+    script.push(&[b"#".to_vec(), digits(20_000, false)].concat());
+    script.push(&[b"D".to_vec(), digits(20_000, true)].concat());
+}
+
+/// Dynamic blocks with all counts of measurements.
+fn measurement_lengths(random: &mut Random, script: &mut Script, part: usize) {
+    enter_some_state(random, script);
+    let mut words = [0u16; 1025];
+    words[..blocks::MEASUREMENTS].copy_from_slice(&random_measurements(random));
+    for count in (part % 10..=490).step_by(10).chain([483, 484, 485, 1023, 1024, 1025]) {
+        script.push(&words_line(b'D', &words[..count]));
+    }
+    words[4] = 0xFFFF;
+    for count in [0, 4, 5, 483, 484, 485] {
+        script.push(&words_line(b'D', &words[..count]));
+    }
+}
+
+/// Damaged lines.
+fn damaged(random: &mut Random, index: usize) -> Vec<u8> {
+    if index % 50 == 7 {
+        let whole: [&[u8]; 8] =
+            [b"", b"\n", b"\n\n\n", b"#", b"S", b" ", b"\r\n", b"# no line\nK00000001\n\n#"];
+        return whole[index / 50 % whole.len()].to_vec();
+    }
+    let mut script = Script::new();
+    enter_some_state(random, &mut script);
+    for _ in 0..120 {
+        let line = session_line(random, script.board());
+        if random.chance(35) {
+            script.push_styled(random, &line);
+            continue;
+        }
+        let line = damage(random, line);
+        script.push(&line);
+    }
+    if random.chance(50) {
+        script.text.pop();
+    }
+    script.text
+}
+
+/// The line with one thing changed.
+fn damage(random: &mut Random, mut line: Vec<u8>) -> Vec<u8> {
+    let place = random.below(line.len().max(1)).min(if random.chance(40) { 6 } else { usize::MAX });
+    let odd =
+        |random: &mut Random| random.choose(b"\t\r\0 GgXx-+.,:/@`#_\x0B\x0C\x7F\x80\xA0\xFF\n");
+    match random.below(15) {
+        0 => line[place] = random.choose(b"0123456789ABCDEFabcdef"),
+        1 => line[place] = odd(random),
+        2 => line[place] = random.byte(),
+        3 => {
+            line.remove(place);
+        }
+        4 => line.insert(place, line[place]),
+        5 => {
+            line.truncate(place);
+        }
+        6 => line.make_ascii_lowercase(),
+        7 => line[1..].make_ascii_lowercase(),
+        8 => line.insert(0, random.choose(b" \t0#")),
+        9 => {
+            let place = 1 + random.below(line.len());
+            line.splice(place..place, vec![b' '; 1 + random.below(5)]);
+        }
+        10 => line.push(random.choose(b" \t\r\0\n0F")),
+        11 => line.extend_from_slice(b"\r"),
+        12 => line.insert(place, odd(random)),
+        13 => line[0] = random.choose(b"ABCDEFGHIJKLMNOPQRSTUVWXYZabcd019"),
+        _ => line = random.choose(&[&b""[..], b"#", b"# S", b"   ", b"?", b"\xC3\xA9"]).to_vec(),
+    }
+    line
+}
+
+/// Words at and above their bounds, board IDs, n, settings, flags, crates.
+fn bounds(random: &mut Random, index: usize) -> Vec<u8> {
+    let mut script = Script::new();
+    let stride = 100;
+    let first = index % stride;
+    for place in (first..configuration::WORDS)
+        .step_by(stride)
+        .chain([random.choose(&[0, 1, 2, 3, 432, 433, 434, 435])])
+    {
+        let bound = configuration::bound(place);
+        for value in [bound, bound.wrapping_add(1), 0xFFFF] {
+            let mut block = quiet_block(random);
+            block[place] = value;
+            if random.chance(20) {
+                block[random.choose(&[0, 1, 2, 3, 432, 433, 434, 435])] = random.word();
+            }
+            if script.mode() != Mode::Idle || random.chance(20) {
+                if random.chance(50) && script.in_pass() {
+                    script.run_out();
+                } else if !random.chance(10) {
+                    script.push(&power_up_line(random.number() % ID_LIMIT, random.word()));
+                }
+            }
+            let mut words = vec![0x40, 2, 1, 0, 0];
+            words.extend_from_slice(&block);
+            script.push(&words_line(b'C', &words));
+            script.push(b"S");
+            for crate_number in 0..4 {
+                script.push(&bytes_line(b'F', &[crate_number]));
+            }
+        }
+    }
+    enter_some_state(random, &mut script);
+    for place in (first..blocks::MEASUREMENTS).step_by(stride) {
+        for value in [0x3FFF, 0x4000, 0xFFFF] {
+            let mut words = random_measurements(random);
+            words[place] = value;
+            if random.chance(15) {
+                words[random.below(blocks::MEASUREMENTS)] = random.word();
+            }
+            script.push(&words_line(b'D', &words));
+        }
+    }
+    for _ in 0..8 {
+        let id = match random.below(4) {
+            0 => ID_LIMIT - 1 - random.below(3) as u64,
+            1 => ID_LIMIT + random.below(3) as u64,
+            2 => 1 << (55 + random.below(9)),
+            _ => random.choose(&[0, 1, u64::MAX, u64::MAX >> 7, u64::MAX >> 6]),
+        };
+        script.push(&power_up_line(id, random.word()));
+        script.push(b"S");
+    }
+    let running = random.chance(70);
+    if running {
+        let mut block = random_block(random);
+        block[ACTIVE..].fill(0);
+        script.command(&Command::Write(&block));
+        script.command(&Command::Start(Events::Endless));
+    }
+    for n in [0, 1, 38, 39, 40, 41, 42, 63, 64, 127, 128, 255] {
+        let setting = random.choose(&[0, 14, 15, 16, 17, 31, 32, 255, 7, 8]);
+        let mut bytes = [n, 0, 0, 0, setting, 0, 0, 0];
+        for flag in [1, 2, 3, 5, 6, 7] {
+            bytes[flag] = random.below(2) as u8;
+        }
+        script.push(&bytes_line(b'G', &bytes));
+        bytes[4] = random.below(16) as u8;
+        script.push(&bytes_line(b'G', &bytes));
+        bytes[random.choose(&[1, 2, 3, 5, 6, 7])] = random.choose(&[2, 3, 16, 128, 255]);
+        script.push(&bytes_line(b'G', &bytes));
+    }
+    enter_some_state(random, &mut script);
+    for crate_number in [0, 1, 2, 3, 4, 5, 255] {
+        for letter in *b"FNTRM" {
+            script.push(&bytes_line(letter, &[crate_number]));
+        }
+    }
+    script.text
+}
+
+/// Random sessions of all letters in all states.
+fn sessions(random: &mut Random, _index: usize) -> Vec<u8> {
+    let mut script = Script::new();
+    if random.chance(70) {
+        script.push(&power_up_line(random.number() % ID_LIMIT, random.word()));
+    }
+    for _ in 0..100 + random.below(200) {
+        let line = session_line(random, script.board());
+        script.push_styled(random, &line);
+        if script.in_pass() && random.chance(3) {
+            script.run_out();
+        }
+    }
+    script.text
+}
+
+/// One valid line that suits the state in most cases.
+fn session_line(random: &mut Random, board: &Board) -> Vec<u8> {
+    // power-up, command, clock, trigger, reply, time-up, frame, number,
+    // static, list, message, dynamic
+    let weights = match board.mode() {
+        Mode::Idle => [4, 60, 8, 6, 3, 3, 3, 4, 3, 5, 8, 4],
+        Mode::Running(_) => [1, 25, 12, 50, 2, 2, 1, 2, 3, 3, 4, 5],
+        Mode::Reprogramming => [1, 12, 3, 2, 60, 14, 8, 8, 2, 2, 3, 2],
+        Mode::Ping => [2, 12, 3, 2, 70, 16, 8, 8, 2, 2, 3, 2],
+    };
+    match random.weighted(&weights) {
+        0 => {
+            let id = if random.chance(80) { random.number() % ID_LIMIT } else { random.number() };
+            power_up_line(id, random.word())
+        }
+        1 => session_command(random, board),
+        2 => clock_line(random),
+        3 => trigger_line(random),
+        4 => {
+            let crate_number = busy_crate(random, board);
+            let item = item(random, board, crate_number, 75);
+            item.line()
+        }
+        5 => bytes_line(b'T', &[busy_crate(random, board)]),
+        6 => bytes_line(b'F', &[crate_byte(random)]),
+        7 => bytes_line(b'N', &[crate_byte(random)]),
+        8 => b"S".to_vec(),
+        9 => b"L".to_vec(),
+        10 => {
+            let ordinal = random.choose(&[0, 0, 1, 2, 39, 40, 255]);
+            bytes_line(b'M', &[ordinal])
+        }
+        _ => {
+            let mut words = random_measurements(random).to_vec();
+            match random.below(6) {
+                0 => words[random.below(blocks::MEASUREMENTS)] = random.word(),
+                1 => words.truncate(random.below(486)),
+                _ => {}
+            }
+            words_line(b'D', &words)
+        }
+    }
+}
+
+fn clock_line(random: &mut Random) -> Vec<u8> {
+    let some = random.number() as u32 >> random.below(32);
+    let ticks = random.choose(&[0, 1, u32::MAX, some, some, some]);
+    bytes_line(b'K', &ticks.to_be_bytes())
+}
+
+/// A crate with a frame outstanding, in most cases where there is one.
+fn busy_crate(random: &mut Random, board: &Board) -> u8 {
+    for _ in 0..6 {
+        let crate_number = crate_byte(random);
+        if board.outstanding_frame(crate_number).is_ok() {
+            return crate_number;
+        }
+    }
+    crate_byte(random)
+}
+
+fn trigger_line(random: &mut Random) -> Vec<u8> {
+    let mut bytes = [random.below(41) as u8, 0, 0, 0, random.below(16) as u8, 0, 0, 0];
+    if random.chance(4) {
+        bytes[0] = random.byte();
+    }
+    if random.chance(4) {
+        bytes[4] = random.byte();
+    }
+    for flag in [1, 2, 3, 5, 6, 7] {
+        bytes[flag] = random.below(2) as u8;
+    }
+    bytes_line(b'G', &bytes)
+}
+
+/// A command, now and then with a wrong word.
+fn session_command(random: &mut Random, board: &Board) -> Vec<u8> {
+    let block = if random.chance(70) { quiet_block(random) } else { random_block(random) };
+    let weights = match board.mode() {
+        Mode::Idle if board.fresh() => [4, 8, 40, 3, 8, 4],
+        Mode::Idle => [4, 40, 12, 3, 10, 4],
+        Mode::Running(_) => [4, 3, 3, 20, 3, 3],
+        _ => [4, 4, 4, 4, 4, 4],
+    };
+    let command = match random.weighted(&weights) {
+        0 => Command::Read(random.choose(&[ReadBlock::Static, ReadBlock::Dynamic])),
+        1 => Command::Write(&block),
+        2 => {
+            let few = 1 + random.below(12) as u32;
+            // A low word that is zero or small under a high word that counts.
+            let events = random.choose(&[few, few, few, few << 16, 1 << 16 | few, u32::MAX]);
+            Command::Start(random.choose(&[Events::Endless, Events::Counted(events)]))
+        }
+        3 => Command::Stop,
+        4 => Command::Ping,
+        _ => Command::Reset(random.below(CRATES) as u8),
+    };
+    let mut words = vec![0; commands::HEAD + configuration::WORDS];
+    let used = commands::write(&command, &mut words).expect("the command is valid");
+    words.truncate(used);
+    if random.chance(25) {
+        match random.below(9) {
+            0 => words.truncate(random.below(used)),
+            1 => words[0] = random.choose(&[0x0041, 0x4000, 0, 0x0140, 0x0140]),
+            2 => words[1] = random.choose(&[0, 3, 5, 0x40, 0x0101, 0x2000, 0xFFFF]),
+            3 => words[2] = random.choose(&[0, 1, 2, 3, 4, 5, 8, 9, 16, 0x0101, 0x8000]),
+            4 => words[3 + random.below(2)] = random.choose(&[1, 0x0100, 0xFFFF]),
+            5 if used == 7 => words[5..].fill(0),
+            6 if used > 7 => {
+                words[5 + random.choose(&[0, 1, 2, 3, 432, 433, 434, 435])] = random.word()
+            }
+            7 => words.resize(used + 1 + random.below(8), 0x40),
+            _ => words[random.below(5)] = random.word(),
+        }
+    }
+    words_line(b'C', &words)
+}
+
+/// Long passes of both kinds with replies of all kinds.
+fn passes(random: &mut Random, _index: usize) -> Vec<u8> {
+    let mut script = Script::new();
+    script.push(&power_up_line(random.number() % ID_LIMIT, random.word()));
+    for _ in 0..1 + random.below(3) {
+        if random.chance(50) {
+            script.push(&clock_line(random));
+        }
+        let block = random_block(random);
+        if random.chance(60) {
+            script.command(&Command::Write(&block));
+        } else {
+            script.command(&Command::Ping);
+        }
+        for crate_number in 0..4 {
+            script.push(&bytes_line(b'F', &[crate_number]));
+            script.push(&bytes_line(b'N', &[crate_number]));
+        }
+        let good = random.choose(&[0, 20, 50, 70, 80, 90, 97, 100]);
+        let mut open: Vec<u8> = (0..CRATES as u8).collect();
+        let mut extra = random.below(12);
+        while script.in_pass() || extra > 0 {
+            if !script.in_pass() {
+                extra -= 1;
+            }
+            open.retain(|&crate_number| script.board().outstanding_frame(crate_number).is_ok());
+            let crate_number = match random.below(30) {
+                0 => 4 + random.below(252) as u8,
+                1 => random.below(CRATES) as u8,
+                2 => 4,
+                _ if open.is_empty() => random.below(CRATES) as u8,
+                // Some crates run ahead of the others.
+                3..=12 => open[0],
+                _ => open[random.below(open.len())],
+            };
+            let item = item(random, script.board(), crate_number, good);
+            script.push_styled(random, &item.line());
+            script.push(&bytes_line(b'F', &[crate_number]));
+            script.push(&bytes_line(b'N', &[crate_number]));
+            if random.chance(6) {
+                let other = match random.below(8) {
+                    0 | 1 => b"L".to_vec(),
+                    2 | 3 => bytes_line(b'M', &[random.below(3) as u8]),
+                    4 => b"S".to_vec(),
+                    5 => clock_line(random),
+                    _ => session_command(random, script.board()),
+                };
+                script.push(&other);
+            }
+        }
+        for ordinal in 0..=BOARDS as u8 {
+            script.push(&bytes_line(b'M', &[ordinal]));
+        }
+        script.push(b"L");
+        script.push(b"S");
+        for crate_number in 0..5 {
+            script.push(&bytes_line(b'N', &[crate_number]));
+        }
+        if let Mode::Running(_) = script.mode() {
+            script.command(&Command::Stop);
+        }
+    }
+    script.text
+}
+
+/// Runs with clock steps and triggers.
+fn runs(random: &mut Random, index: usize) -> Vec<u8> {
+    let mut script = Script::new();
+    script.push(&power_up_line(random.number() % ID_LIMIT, random.word()));
+    let mut block = random_block(random);
+    block[ACTIVE..].fill(0);
+    let measurements = words_line(b'D', &random_measurements(random));
+    match index {
+        0 => {
+            // The 48-bit counters pass 2^48: 65,537 steps of 2^32 - 1.
+            script.command(&Command::Write(&block));
+            script.push(b"K00000010");
+            script.command(&Command::Start(Events::Endless));
+            for step in 0..65_545 {
+                script.push(b"KFFFFFFFF");
+                if step % 8192 == 0 || step > 65_530 {
+                    script.push(&measurements);
+                    script.push(b"S");
+                }
+            }
+            script.push(b"K0000FFFF");
+            script.push(&measurements);
+            script.command(&Command::Stop);
+            script.push(&measurements);
+        }
+        1 => {
+            // 70,000 events asked for, all given, and one more.
+            script.command(&Command::Write(&block));
+            script.command(&Command::Start(Events::Counted(70_000)));
+            for event in 0..70_001 {
+                let line = trigger_line(random);
+                script.push(&line);
+                if event % 10_000 == 9_999 || event >= 69_997 {
+                    script.push(b"K00000064");
+                    script.push(&measurements);
+                    script.push(b"L");
+                }
+            }
+            // Refused triggers did not count: give what is left, and one more.
+            while let Mode::Running(_) = script.mode() {
+                script.push(b"G0400000000000000");
+            }
+            script.push(&measurements);
+            script.push(b"G0400000000000000");
+        }
+        _ => {
+            for _ in 0..1 + random.below(4) {
+                let ping_too = random.chance(15);
+                if ping_too {
+                    script.command(&Command::Ping);
+                    script.run_out();
+                }
+                let other = random_block(random);
+                let kept = random.chance(80);
+                script.command(&Command::Write(if kept { &block } else { &other }));
+                script.run_out();
+                let events = 1 + random.below(150) as u32;
+                let counted = random.chance(60);
+                script.command(&Command::Start(if counted {
+                    Events::Counted(events)
+                } else {
+                    Events::Endless
+                }));
+                for _ in 0..random.below(200) {
+                    match random.below(20) {
+                        0 => script.push(&measurements),
+                        1 => script.push(b"S"),
+                        2 => script.push(b"L"),
+                        3 => script.push(&bytes_line(b'M', &[random.below(4) as u8])),
+                        4..=7 => script.push(&clock_line(random)),
+                        8 if random.chance(40) => {
+                            let line = session_command(random, script.board());
+                            script.push(&line);
+                        }
+                        _ => {
+                            let line = trigger_line(random);
+                            script.push_styled(random, &line);
+                        }
+                    }
+                    if script.in_pass() {
+                        script.run_out();
+                    }
+                }
+                script.command(&Command::Start(Events::Endless));
+                script.command(&Command::Stop);
+                script.push(&measurements);
+            }
+        }
+    }
+    script.text
+}
+
+/// A pass for demand 3: the lines before it, its items in a mixed order, and
+/// the lines after it.
+pub struct Pass {
+    pub before: Vec<Vec<u8>>,
+    pub items: Vec<Item>,
+    pub after: Vec<Vec<u8>>,
+}
+
+/// Pass `number` of the series with this seed.
+pub fn pass(seed: u64, number: usize) -> Pass {
+    let mut random = Random::new(seed ^ (number as u64 + 1).wrapping_mul(0xA24B_AED4_963E_E407));
+    let random = &mut random;
+    let mut script = Script::new();
+    script.push(&power_up_line(random.number() % ID_LIMIT, random.word()));
+    script.push(&clock_line(random));
+    // Before a write, a ping leaves a list; before a ping, a write leaves flags
+    // and records.
+    let ping = random.chance(50);
+    if random.chance(60) {
+        if ping {
+            script.command(&Command::Write(&random_block(random)));
+        } else {
+            script.command(&Command::Ping);
+        }
+        while script.in_pass() {
+            let crate_number = busy_crate(random, script.board());
+            let item = item(random, script.board(), crate_number, 80);
+            script.push(&item.line());
+        }
+    }
+    if ping {
+        script.command(&Command::Ping);
+    } else {
+        script.command(&Command::Write(&random_block(random)));
+    }
+    let before = script.text.split(|&byte| byte == b'\n').map(<[u8]>::to_vec).collect();
+
+    let good = random.choose(&[0, 30, 60, 80, 90, 100]);
+    let wanted = match random.below(10) {
+        0 => 0,
+        1..=3 => 1 + random.below(150),
+        _ => usize::MAX,
+    };
+    let mut extra = random.below(20);
+    let mut items = Vec::new();
+    while items.len() < wanted && (script.in_pass() || extra > 0) {
+        if !script.in_pass() {
+            extra -= 1;
+        }
+        let crate_number = match random.below(12) {
+            0 => crate_byte(random),
+            1 => random.below(256) as u8,
+            2..=4 => (0..4).find(|&c| script.board().outstanding_frame(c).is_ok()).unwrap_or(0),
+            _ => busy_crate(random, script.board()),
+        };
+        let item = item(random, script.board(), crate_number, good);
+        script.push(&item.line());
+        items.push(item);
+    }
+    Pass { before, items, after: closing_lines(random) }
+}
+
+/// Lines that show all of the state after a pass; where it has not ended they
+/// let it run out and show it again.
+fn closing_lines(random: &mut Random) -> Vec<Vec<u8>> {
+    let mut lines = Vec::new();
+    for round in 0..2 {
+        for crate_number in 0..5 {
+            lines.push(bytes_line(b'F', &[crate_number]));
+            lines.push(bytes_line(b'N', &[crate_number]));
+        }
+        lines.push(b"L".to_vec());
+        for ordinal in 0..=BOARDS as u8 {
+            lines.push(bytes_line(b'M', &[ordinal]));
+        }
+        lines.push(b"S".to_vec());
+        lines.push(words_line(b'D', &random_measurements(random)));
+        lines.push(command_line(&Command::Start(Events::Endless)));
+        lines.push(b"G0400000000000000".to_vec());
+        lines.push(command_line(&Command::Stop));
+        lines.push(command_line(&Command::Reset(1)));
+        if round == 0 {
+            for crate_number in 0..CRATES as u8 {
+                for _ in 0..3 * BOARDS_PER_CRATE {
+                    lines.push(bytes_line(b'T', &[crate_number]));
+                }
+            }
+        }
+    }
+    lines
+}
+
+#[cfg(test)]
+mod tests {
+    use super::*;
+
+    #[test]
+    fn same_seed_same_script() {
+        for number in 16..32 {
+            assert!(script(5, number).text == script(5, number).text);
+        }
+    }
+
+    #[test]
+    fn first_splitmix_numbers() {
+        let mut random = Random::new(1234567);
+        assert_eq!(random.number(), 6457827717110365317);
+        assert_eq!(random.number(), 3203168211198807973);
+    }
+}

@@ -1,0 +1,345 @@
+//! Scripts: one line in, one line of text out, or nothing (docs/REPLAY.md).
+
+use std::io::Write;
+
+use crate::board::{Board, Done, Outcome};
+use crate::commands::ReadBlock;
+use crate::packets::{self, Trigger};
+use crate::Refusal;
+
+/// Hexadecimal digits that a line may have.
+pub const MAX_DIGITS: usize = 4096;
+
+/// Obeys a script line by line on its current board.
+pub struct Replay {
+    board: Board,
+    digits: Vec<u8>,
+    bytes: Vec<u8>,
+    words: Vec<u16>,
+    block: [u16; 498],
+}
+
+impl Default for Replay {
+    fn default() -> Replay {
+        Replay::new()
+    }
+}
+
+impl Replay {
+    /// A board of ID 0 and firmware ID 0 stands there before any `P`.
+    pub fn new() -> Replay {
+        Replay {
+            board: Board::power_up(0, 0).expect("0 is below 2^57"),
+            digits: Vec::with_capacity(MAX_DIGITS),
+            bytes: Vec::with_capacity(MAX_DIGITS / 2),
+            words: Vec::with_capacity(MAX_DIGITS / 4),
+            block: [0; 498],
+        }
+    }
+
+    /// The current board.
+    pub fn board(&self) -> &Board {
+        &self.board
+    }
+
+    /// Obeys one line, given without its line feed, and appends what it prints,
+    /// with a line feed, to `out`. Gives whether anything was printed.
+    pub fn line(&mut self, line: &[u8], out: &mut Vec<u8>) -> bool {
+        let Some((&letter, rest)) = line.split_first() else {
+            return false;
+        };
+        if letter == b'#' {
+            return false;
+        }
+        if !self.read_digits(rest) || !self.obey(letter, out) {
+            out.push(b'?');
+        }
+        out.push(b'\n');
+        true
+    }
+
+    /// Collects the digits after the letter; false if another character stands
+    /// there or there are too many digits.
+    fn read_digits(&mut self, text: &[u8]) -> bool {
+        self.digits.clear();
+        for &character in text {
+            let digit = match character {
+                b' ' => continue,
+                b'0'..=b'9' => character - b'0',
+                b'A'..=b'F' => character - b'A' + 10,
+                b'a'..=b'f' => character - b'a' + 10,
+                _ => return false,
+            };
+            if self.digits.len() == MAX_DIGITS {
+                return false;
+            }
+            self.digits.push(digit);
+        }
+        true
+    }
+
+    /// Obeys the line and appends its answer; false, with nothing appended and
+    /// nothing changed, if the line has another form.
+    fn obey(&mut self, letter: u8, out: &mut Vec<u8>) -> bool {
+        let count = self.digits.len();
+        let right_count = match letter {
+            b'P' => count == 20,
+            b'C' | b'D' => count.is_multiple_of(4),
+            b'K' => count == 8,
+            b'G' => count == 16,
+            b'R' => count >= 2 && count.is_multiple_of(2),
+            b'T' | b'F' | b'N' | b'M' => count == 2,
+            b'S' | b'L' => count == 0,
+            _ => false,
+        };
+        if !right_count {
+            return false;
+        }
+        match letter {
+            b'P' => self.power_up(out),
+            b'C' => self.command(out),
+            b'K' => {
+                let ticks = self.number(0, 8) as u32;
+                self.board.clock(ticks);
+                out.push(b'0');
+            }
+            b'G' => return self.trigger(out),
+            b'R' => self.reply(out),
+            b'T' => {
+                let answer = self.board.time_up(self.byte(0));
+                print_answer(answer, out);
+            }
+            b'F' => match self.board.outstanding_frame(self.byte(0)) {
+                Ok(frame) => print_bytes(frame, out),
+                Err(refusal) => print_refusal(refusal, out),
+            },
+            b'N' => match self.board.frames_sent(self.byte(0)) {
+                Ok(number) => print_text(out, format_args!("0 {number}")),
+                Err(refusal) => print_refusal(refusal, out),
+            },
+            _ => self.block(letter, out),
+        }
+        true
+    }
+
+    fn power_up(&mut self, out: &mut Vec<u8>) {
+        match Board::power_up(self.number(0, 16), self.number(16, 20) as u16) {
+            Ok(board) => {
+                self.board = board;
+                out.push(b'0');
+            }
+            Err(refusal) => print_refusal(refusal, out),
+        }
+    }
+
+    fn command(&mut self, out: &mut Vec<u8>) {
+        self.read_words();
+        match self.board.obey(&self.words) {
+            Ok((done, used)) => {
+                print_text(out, format_args!("0 {used} "));
+                match done {
+                    Done::Read(ReadBlock::Static) => out.extend_from_slice(b"read static"),
+                    Done::Read(ReadBlock::Dynamic) => out.extend_from_slice(b"read dynamic"),
+                    Done::Write => out.extend_from_slice(b"write"),
+                    Done::Start => out.extend_from_slice(b"start"),
+                    Done::Stop => out.extend_from_slice(b"stop"),
+                    Done::Ping => out.extend_from_slice(b"ping"),
+                    Done::Reset(number) => print_text(out, format_args!("reset {number}")),
+                }
+            }
+            Err(refused) => {
+                print_text(out, format_args!("{} {}", refused.refusal.number(), refused.used));
+                if let Some(place) = refused.refusal.place() {
+                    print_text(out, format_args!(" {place}"));
+                }
+            }
+        }
+    }
+
+    fn trigger(&mut self, out: &mut Vec<u8>) -> bool {
+        let flag = |place: usize| self.byte(place) == 1;
+        if [1, 2, 3, 5, 6, 7].iter().any(|&place| self.byte(place) > 1) {
+            return false;
+        }
+        let trigger = Trigger {
+            n: self.byte(0),
+            external_1: flag(1),
+            external_2: flag(2),
+            tim_source: flag(3),
+            pulser_setting: self.byte(4),
+            pedestal: flag(5),
+            lp_2: flag(6),
+            lp_1: flag(7),
+        };
+        let mut packet = [0; packets::BYTES];
+        match self.board.trigger(&trigger, &mut packet) {
+            Ok(()) => print_bytes(&packet, out),
+            Err(refusal) => print_refusal(refusal, out),
+        }
+        true
+    }
+
+    fn reply(&mut self, out: &mut Vec<u8>) {
+        self.bytes.clear();
+        self.bytes.extend(self.digits.chunks_exact(2).map(|pair| pair[0] << 4 | pair[1]));
+        let answer = self.board.reply(self.bytes[0], &self.bytes[1..]);
+        print_answer(answer, out);
+    }
+
+    fn block(&mut self, letter: u8, out: &mut Vec<u8>) {
+        let written = match letter {
+            b'S' => self.board.static_block(&mut self.block),
+            b'L' => self.board.ftu_list(&mut self.block),
+            b'M' => {
+                let ordinal = usize::from(self.byte(0));
+                self.board.failure_message(ordinal, &mut self.block)
+            }
+            _ => {
+                self.read_words();
+                self.board.dynamic_block(&self.words, &mut self.block)
+            }
+        };
+        match written {
+            Ok(count) => print_words(&self.block[..count], out),
+            Err(refusal) => print_refusal(refusal, out),
+        }
+    }
+
+    /// The number in digits `from` to `to`.
+    fn number(&self, from: usize, to: usize) -> u64 {
+        self.digits[from..to].iter().fold(0, |sum, &digit| sum << 4 | u64::from(digit))
+    }
+
+    fn byte(&self, place: usize) -> u8 {
+        self.digits[2 * place] << 4 | self.digits[2 * place + 1]
+    }
+
+    fn read_words(&mut self) {
+        self.words.clear();
+        self.words.extend(
+            self.digits
+                .chunks_exact(4)
+                .map(|four| four.iter().fold(0u16, |sum, &digit| sum << 4 | u16::from(digit))),
+        );
+    }
+}
+
+fn print_text(out: &mut Vec<u8>, text: std::fmt::Arguments) {
+    out.write_fmt(text).expect("a vector takes all");
+}
+
+/// The number, and for 8 the place after it.
+fn print_refusal(refusal: Refusal, out: &mut Vec<u8>) {
+    print_text(out, format_args!("{}", refusal.number()));
+    if let Some(place) = refusal.place() {
+        print_text(out, format_args!(" {place}"));
+    }
+}
+
+fn print_answer(answer: Result<crate::board::Answer, Refusal>, out: &mut Vec<u8>) {
+    match answer {
+        Ok(answer) => {
+            out.extend_from_slice(match answer.outcome {
+                Outcome::Good => b"0 good",
+                Outcome::Again => b"0 again",
+                Outcome::Failed => b"0 failed",
+            });
+            if answer.done {
+                out.extend_from_slice(b" done");
+            }
+        }
+        Err(refusal) => print_refusal(refusal, out),
+    }
+}
+
+const DIGITS: &[u8; 16] = b"0123456789ABCDEF";
+
+fn push_byte(byte: u8, out: &mut Vec<u8>) {
+    out.push(DIGITS[usize::from(byte >> 4)]);
+    out.push(DIGITS[usize::from(byte & 0x0F)]);
+}
+
+fn print_bytes(bytes: &[u8], out: &mut Vec<u8>) {
+    out.extend_from_slice(b"0 ");
+    for &byte in bytes {
+        push_byte(byte, out);
+    }
+}
+
+fn print_words(words: &[u16], out: &mut Vec<u8>) {
+    out.extend_from_slice(b"0 ");
+    for &word in words {
+        push_byte((word >> 8) as u8, out);
+        push_byte(word as u8, out);
+    }
+}
+
+#[cfg(test)]
+mod tests {
+    use super::*;
+
+    /// All lines of a script, with what they print.
+    fn run(script: &str) -> String {
+        let mut replay = Replay::new();
+        let mut out = Vec::new();
+        for line in script.split('\n') {
+            replay.line(line.as_bytes(), &mut out);
+        }
+        String::from_utf8(out).unwrap()
+    }
+
+    #[test]
+    fn forms_of_lines() {
+        assert_eq!(run(""), "");
+        assert_eq!(run("# note\n\nK0000000a"), "0\n");
+        assert_eq!(run("K 0 0 0 0 0 0 0 1 \n K00000001\nk00000001\nK0000001"), "0\n?\n?\n?\n");
+        assert_eq!(run("K00000001\r\nX\nS0\nC004\nR\nR0\n\t"), "?\n?\n?\n?\n?\n?\n?\n");
+        assert_eq!(run("P0200000000000000 0001\nP01FFFFFFFFFFFFFF 0001"), "20\n0\n");
+        assert_eq!(run(&format!("C{}", "0".repeat(4096))), "2 0\n");
+        assert_eq!(run(&format!("C{}", "0".repeat(4100))), "?\n");
+        assert_eq!(run(&format!("D{}", "0".repeat(4096))), "6\n");
+        assert_eq!(run("G29 000000 00 000000\nG28 000000 00 000000"), "15\n16\n");
+        assert_eq!(run("G29 020000 00 000000"), "?\n");
+    }
+
+    #[test]
+    fn words_of_commands() {
+        let write = format!("C0040 0002 0001 0000 0000 {}", "0000".repeat(436));
+        let script = format!(
+            "C\nC00400001000100000000\nC004000010002000000000040\nC00400010000000000000\n\
+             F00\nN00\nN04\nT00\nT04\nC00400010000000000000\n{write}\nL\nM00\nC00400020000400000000"
+        );
+        let expected = "1 0\n0 5 read static\n0 5 read dynamic\n0 5 ping\n\
+             0 4000C00004000000000000000000000000000000000000000000001B\n0 1\n11\n0 again\n11\n\
+             9 5\n9 441\n9\n9\n9 5\n";
+        assert_eq!(run(&script), expected);
+        assert_eq!(
+            run("C00400020000400000000\nM00\nT00\nF00\nF04\nN03"),
+            "0 5 reset 2\n18\n12\n12\n11\n0 0\n"
+        );
+        let run_script = format!(
+            "{write}\nC004000040002000000000000 0001\nG0400000000000000\nG0400000000000000\n\
+             C00400004000100000000"
+        );
+        assert_eq!(run(&run_script), "0 441 write\n0 7 start\n0 0100000010007E\n16\n10 5\n");
+    }
+
+    #[test]
+    fn places() {
+        let mut words = vec!["0000"; 436];
+        words[432] = "0400";
+        let write = format!("C00400002000100000000{}", words.concat());
+        assert_eq!(run(&write), "8 0 432\n");
+        let mut words = vec!["3FFF"; 484];
+        words[480] = "4000";
+        assert_eq!(run(&format!("D{}", words.concat())), "8 480\n");
+        words[480] = "3fff";
+        let printed = run(&format!("P00000000000000010002\nK00000003\nD{}", words.concat()));
+        let expected = format!(
+            "0\n0\n0 0000000000000001000200000000000000000003{}{}",
+            "0000".repeat(4),
+            "3FFF".repeat(484)
+        );
+        assert_eq!(printed.trim_end(), expected);
+    }
+}
