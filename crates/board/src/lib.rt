@@ -43,7 +43,7 @@ use refusals::Written;
 use run::Run;
 use run::run_at_power_up;
 use steps::Heard;
-use steps::hear;
+use steps::hear_step;
 use steps::nothing_heard;
 use steps::step_frame;
 use steps::write_frame;
@@ -331,10 +331,10 @@ impl Board {
         let crates = self.crates;
         let block = self.block;
         match outstanding_on(crates, index) {
-            Outstanding::Step(board, code) => {
-                let sent = step_frame(&block, index, board, code);
-                self.serve(index, hear(sent, bytes))
-            }
+            Outstanding::Step(board, code) => self.serve(
+                index,
+                hear_step(&block, index, board, code, bytes),
+            ),
             Outstanding::Refused(_) => self.serve(index, nothing_heard()),
         }
     }

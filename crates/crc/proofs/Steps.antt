@@ -1,37 +1,38 @@
--- The steps of one byte and of four in closed form. A computed test of all 256 bytes proves the first;
--- one of the 32 words of a single bit, with linearity, proves the second.
+-- The steps of one byte and of words in closed form. A computed test of all 256 bytes proves the first;
+-- one of the 32 words of a single bit, with linearity, proves each of the others.
 -- Assumes nothing.
-use Prim.Native.Nat.{ℕ, zero, suc, _+_, _*_, _/_, _%_, _^_, _≤_, _<_}
+use Prim.Native.Nat.{ℕ, zero, suc, _+_, _-_, _*_, _/_, _%_, _^_, _≤_, _<_}
 use mathlib.Core.Path.{_≡_, refl, ap, ap₂, _∙_, sym}
 use mathlib.Core.Bool.{Bool}
 use mathlib.Core.List.{List, [], _∷_}
 use native.Mathlib.Omega.{arith}
 use native.Mathlib.Numerals.{one-add}
 use native.Mathlib.Nat.{add-zero, zero-mul, one-mul, mod-lt}
-use lib.Bits.{bitXor, xor-lt, xor-mod, xor-shr, xor-block, xor-shifted, xor-zero-l, xor-zero-r}
-use lib.Dec.{eqb, eqb→eq}
-use lib.ListN.{length, drop, getD}
+use lib.Bits.{bitXor, xor-mod, xor-shr, xor-block, xor-shifted, xor-zero-l, xor-zero-r}
+use lib.Dec.{T, eqb, eqb→eq}
+use lib.ListN.{length, drop, getD, replicate, length-replicate, drop-of-length-le}
 use lib.Pow.{pow-pos, shr-lt, split}
 use lib.Seq.{drop-cons}
-use Rattle.crc.specs.Crc.{crcBits, crcByte, crcFrom, crc}
+use Rattle.crc.specs.Crc.{crcByte, crcFrom, crc}
 use Rattle.crc.specs.Word.{crcWord}
-use Rattle.crc.proofs.Below.{below}
-use Rattle.crc.proofs.Linear.{crcByte-linear, crc-linear}
+use Rattle.crc.proofs.Below.{allBelow, below}
+use Rattle.crc.proofs.Linear.{xors, crcByte-linear, crc-linear}
 use Rattle.crc.proofs.Xor.{digit, xor-swap}
 
 -- as `crc_byte` computes it
-abbrev byteSpread : ℕ → ℕ
-byteSpread y = bitXor (bitXor y (y * 2 % 256)) (y * 4 % 256)
+abbrev byteFolded : ℕ → ℕ
+byteFolded x = bitXor (bitXor x (x / 64)) (x / 128)
 
 abbrev byteStep : ℕ → ℕ
-byteStep x = byteSpread (bitXor (bitXor x (x / 64)) (x / 128))
+byteStep x = bitXor (bitXor (byteFolded x) (byteFolded x * 2 % 256)) (byteFolded x * 4 % 256)
 
 byteRight : ℕ → Bool
-byteRight x = eqb (byteStep x) (crcBits 8 x)
+unfolding crcByte
+byteRight x = eqb (byteStep x) (crc (x ∷ []))
 
-pub byte-step : (r b : ℕ) → r < 256 → b < 256 → byteStep (bitXor r b) ≡ crcByte r b
+pub byte-step : (b : ℕ) → b < 256 → byteStep b ≡ crc (b ∷ [])
 unfolding byteRight crcByte
-byte-step r b h k = eqb→eq (byteStep (bitXor r b)) (crcBits 8 (bitXor r b)) (below byteRight 256 tt (bitXor r b) (xor-lt 8 r b h k))
+byte-step b h = eqb→eq (byteStep b) (crc (b ∷ [])) (below byteRight 256 tt b h)
 
 abbrev Linear : (ℕ → ℕ) → Type 0
 Linear F = (a b : ℕ) → F (bitXor a b) ≡ bitXor (F a) (F b)
@@ -63,33 +64,20 @@ agree F G p q z (suc k) t n h =
     ∙ sym (q (n / 2 ^ k * 2 ^ k) (n % 2 ^ k))
     ∙ ap G whole
 
--- as `four_bytes_on` computes it
-abbrev wordFolded : ℕ → ℕ
-wordFolded x = bitXor (bitXor x (x / 2 ^ 24)) (x / 2 ^ 28)
-
-abbrev wordSpread : ℕ → ℕ
-wordSpread y = bitXor (bitXor y (y * 2 ^ 4 % 2 ^ 32)) (y * 2 ^ 8 % 2 ^ 32)
-
-folded-linear : Linear wordFolded
-folded-linear =
-    sum (λ (x : ℕ). bitXor x (x / 2 ^ 24)) (λ (x : ℕ). x / 2 ^ 28)
-    (sum (λ (x : ℕ). x) (λ (x : ℕ). x / 2 ^ 24) (λ a b. refl) (λ a b. xor-shr a b 24))
-    (λ a b. xor-shr a b 28)
-
-moved-linear : (k : ℕ) → Linear (λ (y : ℕ). y * 2 ^ k % 2 ^ 32)
-moved-linear k = after (λ (y : ℕ). y * 2 ^ k) (λ (y : ℕ). y % 2 ^ 32) (up k) (λ a b. xor-mod a b 32)
-
-spread-linear : Linear wordSpread
-spread-linear =
-    sum (λ (y : ℕ). bitXor y (y * 2 ^ 4 % 2 ^ 32)) (λ (y : ℕ). y * 2 ^ 8 % 2 ^ 32)
-    (sum (λ (y : ℕ). y) (λ (y : ℕ). y * 2 ^ 4 % 2 ^ 32) (λ a b. refl) (moved-linear 4))
-    (moved-linear 8)
-
-byte-linear : (k : ℕ) → Linear (λ (w : ℕ). w / 2 ^ k % 2 ^ 8)
-byte-linear k = after (λ (w : ℕ). w / 2 ^ k) (λ (w : ℕ). w % 2 ^ 8) (λ a b. xor-shr a b k) (λ a b. xor-mod a b 8)
-
 zero-linear : Linear (λ (n : ℕ). 0)
 zero-linear a b = refl
+
+shr-linear : (k : ℕ) → Linear (λ (w : ℕ). w / 2 ^ k)
+shr-linear k a b = xor-shr a b k
+
+low-linear : (k : ℕ) → Linear (λ (w : ℕ). w % 2 ^ k)
+low-linear k a b = xor-mod a b k
+
+shl-linear : (k : ℕ) → Linear (λ (w : ℕ). w * 2 ^ k % 2 ^ 32)
+shl-linear k = after (λ (w : ℕ). w * 2 ^ k) (λ (w : ℕ). w % 2 ^ 32) (up k) (low-linear 32)
+
+byte-linear : (k : ℕ) → Linear (λ (w : ℕ). w / 2 ^ k % 2 ^ 8)
+byte-linear k = after (λ (w : ℕ). w / 2 ^ k) (λ (w : ℕ). w % 2 ^ 8) (shr-linear k) (low-linear 8)
 
 word-linear : Linear crcWord
 unfolding crcWord
@@ -97,29 +85,113 @@ word-linear =
     register (λ (w : ℕ). crcByte (crcByte (crcByte 0 (w / 2 ^ 24)) (w / 2 ^ 16 % 2 ^ 8)) (w / 2 ^ 8 % 2 ^ 8)) (λ (w : ℕ). w % 2 ^ 8)
     (register (λ (w : ℕ). crcByte (crcByte 0 (w / 2 ^ 24)) (w / 2 ^ 16 % 2 ^ 8)) (λ (w : ℕ). w / 2 ^ 8 % 2 ^ 8)
     (register (λ (w : ℕ). crcByte 0 (w / 2 ^ 24)) (λ (w : ℕ). w / 2 ^ 16 % 2 ^ 8)
-    (register (λ (w : ℕ). 0) (λ (w : ℕ). w / 2 ^ 24) zero-linear (λ a b. xor-shr a b 24))
+    (register (λ (w : ℕ). 0) (λ (w : ℕ). w / 2 ^ 24) zero-linear (shr-linear 24))
     (byte-linear 16))
     (byte-linear 8))
-    (λ a b. xor-mod a b 8)
+    (low-linear 8)
 
--- four bytes of 0
-abbrev zeros : List ℕ
-zeros = 0 ∷ 0 ∷ 0 ∷ 0 ∷ []
+-- n and n moved up by i and by j places
+abbrev pub spread : ℕ → ℕ → ℕ → ℕ → ℕ
+spread i j m n = bitXor (bitXor (bitXor m n) (n * 2 ^ i % 2 ^ 32)) (n * 2 ^ j % 2 ^ 32)
 
-later-linear : Linear (λ (w : ℕ). crcFrom (crcWord w) zeros)
-later-linear a b = ap (λ (r : ℕ). crcFrom r zeros) (word-linear a b) ∙ crc-linear (crcWord a) (crcWord b) zeros zeros refl
+spread-linear : (i j : ℕ) (F G : ℕ → ℕ) → Linear F → Linear G → Linear (λ (w : ℕ). spread i j (F w) (G w))
+spread-linear i j F G p q =
+    sum (λ (w : ℕ). bitXor (bitXor (F w) (G w)) (G w * 2 ^ i % 2 ^ 32)) (λ (w : ℕ). G w * 2 ^ j % 2 ^ 32)
+    (sum (λ (w : ℕ). bitXor (F w) (G w)) (λ (w : ℕ). G w * 2 ^ i % 2 ^ 32)
+    (sum F G p q)
+    (after G (λ (n : ℕ). n * 2 ^ i % 2 ^ 32) q (shl-linear i)))
+    (after G (λ (n : ℕ). n * 2 ^ j % 2 ^ 32) q (shl-linear j))
+
+-- as `crc_word` computes it
+abbrev pub foldedOnce : ℕ → ℕ
+foldedOnce w = spread 2 4 (w % 2 ^ 8 * 2 ^ 8 % 2 ^ 32) (w / 2 ^ 8)
+
+abbrev pub foldedTwice : ℕ → ℕ
+foldedTwice w = spread 2 4 (foldedOnce w % 2 ^ 16) (foldedOnce w / 2 ^ 16)
+
+abbrev wordCrc : ℕ → ℕ
+wordCrc w = bitXor (crc (foldedTwice w / 2 ^ 8 % 2 ^ 8 ∷ [])) (foldedTwice w % 2 ^ 8)
+
+once-linear : Linear foldedOnce
+once-linear =
+    spread-linear 2 4 (λ (w : ℕ). w % 2 ^ 8 * 2 ^ 8 % 2 ^ 32) (λ (w : ℕ). w / 2 ^ 8)
+    (after (λ (w : ℕ). w % 2 ^ 8) (λ (w : ℕ). w * 2 ^ 8 % 2 ^ 32) (low-linear 8) (shl-linear 8))
+    (shr-linear 8)
+
+twice-linear : Linear foldedTwice
+twice-linear =
+    spread-linear 2 4 (λ (w : ℕ). foldedOnce w % 2 ^ 16) (λ (w : ℕ). foldedOnce w / 2 ^ 16)
+    (after foldedOnce (λ (w : ℕ). w % 2 ^ 16) once-linear (low-linear 16))
+    (after foldedOnce (λ (w : ℕ). w / 2 ^ 16) once-linear (shr-linear 16))
+
+wordCrc-linear : Linear wordCrc
+wordCrc-linear =
+    sum (λ (w : ℕ). crcByte 0 (foldedTwice w / 2 ^ 8 % 2 ^ 8)) (λ (w : ℕ). foldedTwice w % 2 ^ 8)
+    (register (λ (w : ℕ). 0) (λ (w : ℕ). foldedTwice w / 2 ^ 8 % 2 ^ 8) zero-linear (after foldedTwice (λ (w : ℕ). w / 2 ^ 8 % 2 ^ 8) twice-linear (byte-linear 8)))
+    (after foldedTwice (λ (w : ℕ). w % 2 ^ 8) twice-linear (low-linear 8))
 
 wordRight : ℕ → Bool
 unfolding crcWord crcByte
-wordRight j = eqb (crcWord (wordSpread (wordFolded (2 ^ j)))) (crcFrom (crcWord (2 ^ j)) zeros)
+wordRight j = eqb (wordCrc (2 ^ j)) (crcWord (2 ^ j))
 
-pub word-step : (w : ℕ) → w < 4294967296 → crcWord (wordSpread (wordFolded w)) ≡ crcFrom (crcWord w) zeros
+pub word-crc : (w : ℕ) → w < 4294967296 → wordCrc w ≡ crcWord w
 unfolding wordRight crcWord crcByte
-word-step =
-    agree (λ (w : ℕ). crcWord (wordSpread (wordFolded w))) (λ (w : ℕ). crcFrom (crcWord w) zeros)
-    (after wordFolded (λ (y : ℕ). crcWord (wordSpread y)) folded-linear (after wordSpread crcWord spread-linear word-linear)) later-linear refl
-    32
-    (λ j h. eqb→eq (crcWord (wordSpread (wordFolded (2 ^ j)))) (crcFrom (crcWord (2 ^ j)) zeros) (below wordRight 32 tt j h))
+word-crc = agree wordCrc crcWord wordCrc-linear word-linear refl 32 (λ j h. eqb→eq (wordCrc (2 ^ j)) (crcWord (2 ^ j)) (below wordRight 32 tt j h))
+
+-- k bytes of 0 after a word
+abbrev later : ℕ → ℕ → ℕ
+later k w = crcFrom (crcWord w) (replicate k 0)
+
+onRight : (ℕ → ℕ) → ℕ → ℕ → Bool
+unfolding crcWord crcByte
+onRight F k j = eqb (crcWord (F (2 ^ j))) (later k (2 ^ j))
+
+module _ (F : ℕ → ℕ) (p : Linear F) (k : ℕ) (x : xors (replicate k 0) (replicate k 0) ≡ replicate k 0) where
+  later-linear : Linear (later k)
+  later-linear a b =
+      ap₂ crcFrom (word-linear a b) (sym x) ∙ crc-linear (crcWord a) (crcWord b) (replicate k 0) (replicate k 0) refl
+
+  on : crcWord (F 0) ≡ later k 0 → T (allBelow (onRight F k) 32) → (w : ℕ) → w < 4294967296 → crcWord (F w) ≡ later k w
+  unfolding onRight
+  on z t = agree (λ (w : ℕ). crcWord (F w)) (later k) (after F crcWord p word-linear) later-linear z 32 (λ j h. eqb→eq (crcWord (F (2 ^ j))) (later k (2 ^ j)) (below (onRight F k) 32 t j h))
+
+-- as `four_bytes_on` computes it
+abbrev wordFolded : ℕ → ℕ
+wordFolded w = bitXor (bitXor w (w / 2 ^ 24)) (w / 2 ^ 28)
+
+abbrev fourOn : ℕ → ℕ
+fourOn w = bitXor (bitXor (wordFolded w) (wordFolded w * 2 ^ 4 % 2 ^ 32)) (wordFolded w * 2 ^ 8 % 2 ^ 32)
+
+folded-linear : Linear wordFolded
+folded-linear =
+    sum (λ (w : ℕ). bitXor w (w / 2 ^ 24)) (λ (w : ℕ). w / 2 ^ 28)
+    (sum (λ (w : ℕ). w) (λ (w : ℕ). w / 2 ^ 24) (λ a b. refl) (shr-linear 24))
+    (shr-linear 28)
+
+fourOn-linear : Linear fourOn
+fourOn-linear =
+    sum (λ (w : ℕ). bitXor (wordFolded w) (wordFolded w * 2 ^ 4 % 2 ^ 32)) (λ (w : ℕ). wordFolded w * 2 ^ 8 % 2 ^ 32)
+    (sum wordFolded (λ (w : ℕ). wordFolded w * 2 ^ 4 % 2 ^ 32) folded-linear (after wordFolded (λ (w : ℕ). w * 2 ^ 4 % 2 ^ 32) folded-linear (shl-linear 4)))
+    (after wordFolded (λ (w : ℕ). w * 2 ^ 8 % 2 ^ 32) folded-linear (shl-linear 8))
+
+pub four-on-step : (w : ℕ) → w < 4294967296 → crcWord (fourOn w) ≡ crcFrom (crcWord w) (replicate 4 0)
+unfolding onRight crcWord crcByte
+four-on-step = on fourOn fourOn-linear 4 refl refl tt
+
+-- as `bytes_on` computes it
+abbrev bytesOn : ℕ → ℕ → ℕ
+bytesOn k w = spread 4 8 (w * 2 ^ (8 * k) % 2 ^ 32) (w / 2 ^ (32 - 8 * k))
+
+bytesOn-linear : (k : ℕ) → Linear (bytesOn k)
+bytesOn-linear k = spread-linear 4 8 (λ (w : ℕ). w * 2 ^ (8 * k) % 2 ^ 32) (λ (w : ℕ). w / 2 ^ (32 - 8 * k)) (shl-linear (8 * k)) (shr-linear (32 - 8 * k))
+
+pub on-step : (k w : ℕ) → 1 ≤ k → k ≤ 3 → w < 4294967296 → crcWord (bytesOn k w) ≡ crcFrom (crcWord w) (replicate k 0)
+unfolding onRight crcWord crcByte
+on-step zero w a b h = absurd (let z : ⊥ = omega arith in z)
+on-step (suc zero) w a b h = on (bytesOn 1) (bytesOn-linear 1) 1 refl refl tt w h
+on-step (suc (suc zero)) w a b h = on (bytesOn 2) (bytesOn-linear 2) 2 refl refl tt w h
+on-step (suc (suc (suc zero))) w a b h = on (bytesOn 3) (bytesOn-linear 3) 3 refl refl tt w h
+on-step (suc (suc (suc (suc k)))) w a b h = absurd (let z : ⊥ = omega arith in z)
 
 pub word-of : (a b c d : ℕ) → a < 256 → b < 256 → c < 256 → d < 256 → crcWord (a * 16777216 + b * 65536 + c * 256 + d) ≡ crc (a ∷ b ∷ c ∷ d ∷ [])
 unfolding crcWord
@@ -131,17 +203,23 @@ word-of a b c d ha hb hc hd =
     let ed : w % 256 ≡ d = omega arith in
     rw (ea, eb, ec, ed)
 
--- the CRC goes on over four bytes: the word four bytes on is added to theirs
-word-on : (w l v a b c d : ℕ) → crcWord l ≡ crcFrom (crcWord w) zeros → crcWord v ≡ crc (a ∷ b ∷ c ∷ d ∷ []) → crcFrom (crcWord w) (a ∷ b ∷ c ∷ d ∷ []) ≡ crcWord (bitXor l v)
-word-on w l v a b c d p q =
-    simp (xor-zero-r, xor-zero-l) at (crc-linear (crcWord w) 0 zeros (a ∷ b ∷ c ∷ d ∷ []) refl)
-    ∙ sym (word-linear l v ∙ ap₂ bitXor p q)
+-- the CRC goes on over bytes: the word as many bytes on is added to theirs
+zeros-added : (bs : List ℕ) → xors (replicate (length bs) 0) bs ≡ bs
+zeros-added [] = refl
+zeros-added (b ∷ bs) = ap₂ (λ (x : ℕ) (l : List ℕ). x ∷ l) (xor-zero-l b) (zeros-added bs)
+
+word-on : (w l v : ℕ) (bs : List ℕ) → crcWord l ≡ crcFrom (crcWord w) (replicate (length bs) 0) → crcWord v ≡ crc bs → crcWord (bitXor l v) ≡ crcFrom (crcWord w) bs
+word-on w l v bs p q =
+    word-linear l v
+    ∙ ap₂ bitXor p q
+    ∙ sym (crc-linear (crcWord w) 0 (replicate (length bs) 0) bs (length-replicate (length bs) 0))
+    ∙ ap₂ crcFrom (xor-zero-r (crcWord w)) (zeros-added bs)
 
 -- the list from place i on begins with the byte there
 next : (s : List ℕ) (i k : ℕ) → i < length s → suc i ≡ k → drop i s ≡ getD s i 0 ∷ drop k s
 next s i k h e = rw (drop-cons s i 0, e)
 
-pub four-on : (s : List ℕ) (i w l v : ℕ) → i + 4 ≤ length s → crcWord l ≡ crcFrom (crcWord w) zeros
+pub four-on : (s : List ℕ) (i w l v : ℕ) → i + 4 ≤ length s → crcWord l ≡ crcFrom (crcWord w) (replicate 4 0)
     → crcWord v ≡ crc (getD s i 0 ∷ getD s (i + 1) 0 ∷ getD s (i + 2) 0 ∷ getD s (i + 3) 0 ∷ [])
     → crcFrom (crcWord (bitXor l v)) (drop (i + 4) s) ≡ crcFrom (crcWord w) (drop i s)
 four-on s i w l v h p q =
@@ -149,5 +227,39 @@ four-on s i w l v h p q =
     let e1 = next s (i + 1) (i + 2) (omega arith) (omega arith) in
     let e2 = next s (i + 2) (i + 3) (omega arith) (omega arith) in
     let e3 = next s (i + 3) (i + 4) (omega arith) (omega arith) in
-    let on = word-on w l v (getD s i 0) (getD s (i + 1) 0) (getD s (i + 2) 0) (getD s (i + 3) 0) p q in
-    rw (e0, e1, e2, e3) (sym (ap (λ (r : ℕ). crcFrom r (drop (i + 4) s)) on))
+    let on = word-on w l v (getD s i 0 ∷ getD s (i + 1) 0 ∷ getD s (i + 2) 0 ∷ getD s (i + 3) 0 ∷ []) p q in
+    rw (e0, e1, e2, e3) (ap (λ (r : ℕ). crcFrom r (drop (i + 4) s)) on)
+
+-- a byte of 0 leaves a register of 0 as it is
+unchanged : crcByte 0 0 ≡ 0
+unfolding crcByte
+unchanged = refl
+
+module _ (s : List ℕ) (i w : ℕ) where
+  pub rest-none : length s ≤ i → crcWord w ≡ crcFrom (crcWord w) (drop i s)
+  rest-none h = rw (drop-of-length-le s h)
+
+  module _ (l v : ℕ) where
+    pub rest-one : length s ≡ i + 1 → crcWord l ≡ crcFrom (crcWord w) (replicate 1 0)
+        → crcWord v ≡ crc (0 ∷ 0 ∷ 0 ∷ getD s i 0 ∷ []) → crcWord (bitXor l v) ≡ crcFrom (crcWord w) (drop i s)
+    rest-one h p q =
+        let e0 = next s i (i + 1) (omega arith) (omega arith) in
+        let e = drop-of-length-le s {i = i + 1} (omega arith) in
+        rw (e0, e) (word-on w l v (getD s i 0 ∷ []) p (rw (unchanged, unchanged, unchanged) at q))
+
+    pub rest-two : length s ≡ i + 2 → crcWord l ≡ crcFrom (crcWord w) (replicate 2 0)
+        → crcWord v ≡ crc (0 ∷ 0 ∷ getD s i 0 ∷ getD s (i + 1) 0 ∷ []) → crcWord (bitXor l v) ≡ crcFrom (crcWord w) (drop i s)
+    rest-two h p q =
+        let e0 = next s i (i + 1) (omega arith) (omega arith) in
+        let e1 = next s (i + 1) (i + 2) (omega arith) (omega arith) in
+        let e = drop-of-length-le s {i = i + 2} (omega arith) in
+        rw (e0, e1, e) (word-on w l v (getD s i 0 ∷ getD s (i + 1) 0 ∷ []) p (rw (unchanged, unchanged) at q))
+
+    pub rest-three : length s ≡ i + 3 → crcWord l ≡ crcFrom (crcWord w) (replicate 3 0)
+        → crcWord v ≡ crc (0 ∷ getD s i 0 ∷ getD s (i + 1) 0 ∷ getD s (i + 2) 0 ∷ []) → crcWord (bitXor l v) ≡ crcFrom (crcWord w) (drop i s)
+    rest-three h p q =
+        let e0 = next s i (i + 1) (omega arith) (omega arith) in
+        let e1 = next s (i + 1) (i + 2) (omega arith) (omega arith) in
+        let e2 = next s (i + 2) (i + 3) (omega arith) (omega arith) in
+        let e = drop-of-length-le s {i = i + 3} (omega arith) in
+        rw (e0, e1, e2, e) (word-on w l v (getD s i 0 ∷ getD s (i + 1) 0 ∷ getD s (i + 2) 0 ∷ []) p (rw unchanged at q))

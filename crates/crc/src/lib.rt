@@ -1,35 +1,45 @@
 // The CRC-8 of trigger packets and slow-control frames.
+ghost use Prim.Native.Nat.{_+_, _≤_};
 ghost use mathlib.Core.Path.{_≡_};
 ghost use mathlib.Core.List.{[], _∷_};
-ghost use lib.ListN.{drop};
-ghost use Rattle.crc.specs.Crc.{crcByte, crcFrom, crc};
+ghost use lib.ListN.{length, drop, replicate};
+ghost use Rattle.crc.specs.Crc.{crcFrom, crc};
 ghost use Rattle.crc.specs.Word.{crcWord};
 
-// The register after one byte, without a table: x^8 is x^2 + x + 1, and what that moves past the top is added first.
-fn crc_byte(register: u8, byte: u8) -> u8
-    ensures { λ r. ⌜ r ≡ crcByte register byte ⌝ }
+// The CRC of one byte, without a table: x^8 is x^2 + x + 1, and what that moves past the top is added first.
+fn crc_byte(byte: u8) -> u8
+    ensures { λ r. ⌜ r ≡ crc (byte ∷ []) ⌝ }
 {
-    let sum = register ^ byte;
-    let folded = sum ^ (sum >> 6) ^ (sum >> 7);
+    let folded = byte ^ (byte >> 6) ^ (byte >> 7);
     folded ^ (folded << 1) ^ (folded << 2)
+}
+
+// The CRC of a word's four bytes: with a byte of 0 after them, all from x^16 on is folded in twice, as x^16 is x^4 + x^2 + 1.
+fn crc_word(word: u32) -> u8
+    ensures { λ r. ⌜ r ≡ crcWord word ⌝ }
+{
+    let first = word >> 8;
+    let folded_once = ((word % 256) << 8) ^ first ^ (first << 2) ^ (first << 4);
+    let second = folded_once >> 16;
+    let folded_twice = (folded_once % 65536) ^ second ^ (second << 2) ^ (second << 4);
+    crc_byte((folded_twice / 256 % 256) as u8) ^ (folded_twice % 256) as u8
 }
 
 // A word whose CRC is that of the given word with four bytes of 0 after it: x^32 is x^8 + x^4 + 1.
 fn four_bytes_on(word: u32) -> u32
-    ensures { λ r. ⌜ crcWord r ≡ crcFrom (crcWord word) (0 ∷ 0 ∷ 0 ∷ 0 ∷ []) ⌝ }
+    ensures { λ r. ⌜ crcWord r ≡ crcFrom (crcWord word) (replicate 4 0) ⌝ }
 {
     let folded = word ^ (word >> 24) ^ (word >> 28);
     folded ^ (folded << 4) ^ (folded << 8)
 }
 
-// The CRC of a word's four bytes.
-fn crc_word(word: u32) -> u8
-    ensures { λ r. ⌜ r ≡ crcWord word ⌝ }
+// The same with one to three bytes of 0.
+fn bytes_on(word: u32, count: usize) -> u32
+    requires { ⌜ (1 ≤ count) × (count ≤ 3) ⌝ }
+    ensures { λ r. ⌜ crcWord r ≡ crcFrom (crcWord word) (replicate count 0) ⌝ }
 {
-    let first = crc_byte(0, (word / 16777216) as u8);
-    let second = crc_byte(first, (word / 65536 % 256) as u8);
-    let third = crc_byte(second, (word / 256 % 256) as u8);
-    crc_byte(third, (word % 256) as u8)
+    let top = word >> (32 - 8 * count);
+    (word << (8 * count)) ^ top ^ (top << 4) ^ (top << 8)
 }
 
 // Four bytes as a word.
@@ -39,20 +49,20 @@ fn word_of(a: u8, b: u8, c: u8, d: u8) -> u32
     a as u32 * 16777216 + b as u32 * 65536 + c as u32 * 256 + d as u32
 }
 
-// The register after the bytes from a place on.
-fn crc_rest(register: u8, bytes: &[u8], from: usize) -> u8
-    ensures { λ r. ⌜ r ≡ crcFrom register (drop from (now (bytes .entry))) ⌝ }
+// A word whose CRC goes on over the bytes from a place on, fewer than four. Bytes of 0 in front leave a register of 0 as it is.
+fn rest_on(word: u32, bytes: &[u8], from: usize) -> u32
+    requires { ⌜ (from ≤ length (now bytes)) × (length (now bytes) ≤ from + 3) ⌝ }
+    ensures { λ r. ⌜ crcWord r ≡ crcFrom (crcWord word) (drop from (now (bytes .entry))) ⌝ }
 {
-    let mut r = register;
-    let mut i = from;
-    while i < bytes.len() {
-        r = crc_byte(r, bytes[i]);
-        i += 1;
+    match bytes.len() - from {
+        0 => word,
+        1 => bytes_on(word, 1) ^ word_of(0, 0, 0, bytes[from]),
+        2 => bytes_on(word, 2) ^ word_of(0, 0, bytes[from], bytes[from + 1]),
+        _ => bytes_on(word, 3) ^ word_of(0, bytes[from], bytes[from + 1], bytes[from + 2]),
     }
-    r
 }
 
-// The CRC of bytes, four at a step while there are four.
+// The CRC of bytes, four at a step while there are four, and then the rest.
 pub fn crc8(bytes: &[u8]) -> u8
     ensures { λ r. ⌜ r ≡ crc (now (bytes .entry)) ⌝ }
 {
@@ -62,5 +72,5 @@ pub fn crc8(bytes: &[u8]) -> u8
         word = four_bytes_on(word) ^ word_of(bytes[i], bytes[i + 1], bytes[i + 2], bytes[i + 3]);
         i += 4;
     }
-    crc_rest(crc_word(word), bytes, i)
+    crc_word(rest_on(word, bytes, i))
 }

@@ -1,15 +1,15 @@
 -- Frames of five words of data are those of the words that a code carries, and have 28 bytes.
 -- Assumes nothing.
-use Prim.Native.Nat.{ℕ, _+_}
+use Prim.Native.Nat.{ℕ, _+_, _<_}
 use mathlib.Core.Path.{_≡_, refl, sym, ap, subst, _∙_}
 use mathlib.Core.List.{List, [], _∷_, _++_}
 use native.Mathlib.Omega.{arith}
-use lib.ListN.{length, take, getD, replicate, length-append, length-replicate}
-use lib.Seq.{length-take-le, take-at, getD-at}
+use lib.ListN.{length, take, getD, set, replicate, length-append, length-replicate, List·getD-append}
+use lib.Seq.{length-take-le, take-at, getD-at, set-at}
 use Rattle.words.specs.Words.{bytesOf}
 use Rattle.crc.specs.Crc.{crc}
 use Rattle.configuration.specs.declared.Settings.{Settings}
-use Rattle.frames.specs.Frames.{padded, unchecked, frameWith, fiveOf, wordsFor}
+use Rattle.frames.specs.Frames.{padded, unchecked, beforeCrc, frameWith, fiveOf, wordsFor}
 use Rattle.frames.specs.declared.Code.{Code}
 use Rattle.frames.specs.declared.Code.the-variants.{Dacs, Enables, Prescaling, Ping}
 use Rattle.numbers.proofs.Listed.{listed}
@@ -17,14 +17,22 @@ use Rattle.numbers.proofs.Listed.{listed}
 module _ (address number : ℕ) where
   -- zeros up to five words change nothing
   abbrev FiveWill : List ℕ → Type 0
-  FiveWill l = frameWith address number (fiveOf l) ≡ frameWith address number l
+  FiveWill l = unchecked address number (fiveOf l) ≡ unchecked address number l
 
-  pub frame-five : (s : Settings) → length (s .dacs) ≡ 5 → length (s .enables) ≡ 4 → (code : Code) → FiveWill (wordsFor code s)
-  unfolding frameWith
-  frame-five s hd he Dacs = subst FiveWill (listed (s .dacs) 5 hd) refl
-  frame-five s hd he Enables = subst FiveWill (listed (s .enables) 4 he) refl
-  frame-five s hd he Prescaling = refl
-  frame-five s hd he Ping = refl
+  five-will : (s : Settings) → length (s .dacs) ≡ 5 → length (s .enables) ≡ 4 → (code : Code) → FiveWill (wordsFor code s)
+  five-will s hd he Dacs = subst FiveWill (listed (s .dacs) 5 hd) refl
+  five-will s hd he Enables = subst FiveWill (listed (s .enables) 4 he) refl
+  five-will s hd he Prescaling = refl
+  five-will s hd he Ping = refl
+
+  module _ (s : Settings) (hd : length (s .dacs) ≡ 5) (he : length (s .enables) ≡ 4) (code : Code) where
+    pub frame-five : frameWith address number (fiveOf (wordsFor code s)) ≡ frameWith address number (wordsFor code s)
+    unfolding frameWith
+    frame-five = ap (λ (u : List ℕ). u ++ (crc u ∷ [])) (five-will s hd he code)
+
+    pub before-five : beforeCrc address number (fiveOf (wordsFor code s)) ≡ beforeCrc address number (wordsFor code s)
+    unfolding beforeCrc
+    before-five = ap (λ (u : List ℕ). u ++ (0 ∷ [])) (five-will s hd he code)
 
 -- ---- 28 bytes, of which the last is the CRC of the others
 
@@ -44,3 +52,22 @@ module _ (address number : ℕ) (w : List ℕ) where
   frame-crc =
       let u = unchecked address number w in
       ap crc (take-at u (crc u ∷ []) 27 length-unchecked) ∙ sym (getD-at u (crc u) [] 0 27 length-unchecked)
+
+  -- the CRC goes into the place left for it
+  before-crc : crc (take 27 (beforeCrc address number w)) ≡ crc (unchecked address number w)
+  unfolding beforeCrc
+  before-crc = ap crc (take-at (unchecked address number w) (0 ∷ []) 27 length-unchecked)
+
+  pub crc-stored : (x : ℕ) → x ≡ crc (take 27 (beforeCrc address number w)) → set (beforeCrc address number w) 27 x ≡ frameWith address number w
+  unfolding beforeCrc frameWith
+  crc-stored x e =
+      let u = unchecked address number w in
+      set-at u 0 [] x 27 length-unchecked ∙ ap (λ (n : ℕ). u ++ (n ∷ [])) (e ∙ before-crc)
+
+  -- elsewhere the two have the same bytes
+  pub before-same : (k : ℕ) → k < 27 → getD (beforeCrc address number w) k 0 ≡ getD (frameWith address number w) k 0
+  unfolding beforeCrc frameWith
+  before-same k h =
+      let u = unchecked address number w in
+      let l : k < length u = rw length-unchecked h in
+      List·getD-append u (0 ∷ []) 0 k l ∙ sym (List·getD-append u (crc u ∷ []) 0 k l)

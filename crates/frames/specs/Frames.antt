@@ -35,6 +35,10 @@ fiveOf w = padded 5 w
 abbrev pub unchecked : ℕ → ℕ → List ℕ → List ℕ
 unchecked address code w = 0x40 ∷ address ∷ 192 ∷ 0 ∷ code ∷ padded 21 (bytesOf w) ++ (0 ∷ [])
 
+-- the 28 bytes before the CRC stands in them: 0 in its place
+unfoldable pub beforeCrc : ℕ → ℕ → List ℕ → List ℕ
+beforeCrc address code w = unchecked address code w ++ (0 ∷ [])
+
 -- "27 the CRC of 0 to 26"
 unfoldable pub frameWith : ℕ → ℕ → List ℕ → List ℕ
 frameWith address code w = unchecked address code w ++ (crc (unchecked address code w) ∷ [])
@@ -42,3 +46,7 @@ frameWith address code w = unchecked address code w ++ (crc (unchecked address c
 -- the frame of a code to board b of crate c
 abbrev pub frameOf : ℕ → ℕ → Code → Settings → List ℕ
 frameOf c b code s = frameWith (addressOf c b) (codeOf code) (wordsFor code s)
+
+-- the same before its CRC stands in it
+abbrev pub frameBeforeCrc : ℕ → ℕ → Code → Settings → List ℕ
+frameBeforeCrc c b code s = beforeCrc (addressOf c b) (codeOf code) (wordsFor code s)

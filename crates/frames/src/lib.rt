@@ -1,6 +1,6 @@
 // Slow-control frames: 28 bytes that carry a board's settings, or ping it.
 ghost use mathlib.Core.Path.{_≡_};
-ghost use Rattle.frames.specs.Frames.{codeOf, wordsFor, fiveOf, frameWith, frameOf};
+ghost use Rattle.frames.specs.Frames.{codeOf, wordsFor, fiveOf, beforeCrc, frameWith, frameBeforeCrc, frameOf};
 use configuration::Settings;
 use configuration::address_of;
 use crc::crc8;
@@ -42,9 +42,9 @@ fn words_for(code: Code, s: Settings) -> [u16; 5]
     }
 }
 
-// The frame to an address, of a code's number, with five words of data.
-fn frame_with(address: u8, number: u8, w: [u16; 5]) -> [u8; 28]
-    ensures { λ r. ⌜ r ≡ frameWith address number w ⌝ }
+// The frame to an address, of a code's number, with five words of data, before its CRC stands in it.
+fn before_crc(address: u8, number: u8, w: [u16; 5]) -> [u8; 28]
+    ensures { λ r. ⌜ r ≡ beforeCrc address number w ⌝ }
 {
     let a = word_bytes(w[0]);
     let b = word_bytes(w[1]);
@@ -66,6 +66,14 @@ fn frame_with(address: u8, number: u8, w: [u16; 5]) -> [u8; 28]
     f[12] = d[1];
     f[13] = e[0];
     f[14] = e[1];
+    f
+}
+
+// The frame with its CRC.
+fn frame_with(address: u8, number: u8, w: [u16; 5]) -> [u8; 28]
+    ensures { λ r. ⌜ r ≡ frameWith address number w ⌝ }
+{
+    let mut f = before_crc(address, number, w);
     let sum = crc8(&f[..27]);
     f[27] = sum;
     f
@@ -76,4 +84,11 @@ pub fn frame(c: u8, b: u8, code: Code, s: Settings) -> [u8; 28]
     ensures { λ r. ⌜ r ≡ frameOf c b code s ⌝ }
 {
     frame_with(address_of(c, b), code.number(), words_for(code, s))
+}
+
+// The same frame before its CRC stands in it, which is enough to hear the reply.
+pub fn frame_before_crc(c: u8, b: u8, code: Code, s: Settings) -> [u8; 28]
+    ensures { λ r. ⌜ r ≡ frameBeforeCrc c b code s ⌝ }
+{
+    before_crc(address_of(c, b), code.number(), words_for(code, s))
 }

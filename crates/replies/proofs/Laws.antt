@@ -7,22 +7,15 @@ use mathlib.Core.List.{List, [], _∷_}
 use borrow.Author.Tests.{eq-eqb, ne-eqb, lt-ltb, le-ltb}
 use lib.ListN.{length, getD, take}
 use Rattle.crc.specs.Crc.{crc}
+use Rattle.replies.proofs.Same.{and-true, and-false}
 use Rattle.replies.specs.Replies.{sameFrom, zeros, dnaIn, dataRight, conditions, allOf, goodReply}
 
 -- ---- one condition that fails is enough
-
-and-false : (t : Bool) → t && false ≡ false
-and-false true = refl
-and-false false = refl
 
 fails : (n : ℕ) (ts : List Bool) → getD ts n true ≡ false → allOf ts ≡ false
 fails n [] e = e
 fails zero (t ∷ ts) e = rw e
 fails (suc n) (t ∷ ts) e = rw (fails n ts e) (and-false t)
-
-and-true : (t : Bool) → t && true ≡ t
-and-true true = refl
-and-true false = refl
 
 module _ (sent r : List ℕ) where
   bad : (n : ℕ) → getD (conditions sent r) n true ≡ false → false ≡ goodReply sent r

@@ -1,7 +1,7 @@
 // Replies to slow-control frames: when one is good, and what a good ping reply carries.
 ghost use mathlib.Core.Path.{_≡_};
 ghost use Prim.Native.Nat.{_-_};
-ghost use lib.ListN.{getD};
+ghost use lib.ListN.{length, getD};
 ghost use Rattle.replies.specs.Replies.{sameFrom, dnaIn, dataRight, goodReply, carriedIn};
 use crc::crc8;
 use numbers::number64;
@@ -20,34 +20,38 @@ fn byte_at(bytes: &[u8], place: usize) -> u8
     if place < bytes.len() { bytes[place] } else { 0 }
 }
 
-// Whether the reply's data from a place on, to byte 25, are those of another frame.
+// Whether the reply's data from a place on, to byte 25, are those of another frame. Each byte is looked at, so that several are compared at once.
 fn same_from(from: usize, other: [u8; 28], reply: &[u8]) -> bool
+    requires { ⌜ length (now reply) ≡ 28 ⌝ }
     ensures { λ r. ⌜ r ≡ sameFrom (26 - from) from other (now (reply .entry)) ⌝ }
 {
+    let mut same = true;
     let mut i = from;
     while i < 26 {
-        if byte_at(reply, i) != other[i] {
-            return false;
+        if reply[i] != other[i] {
+            same = false;
         }
         i += 1;
     }
-    true
+    same
 }
 
 // The DNA in a ping reply.
 fn dna_in(reply: &[u8]) -> u64
+    requires { ⌜ length (now reply) ≡ 28 ⌝ }
     ensures { λ r. ⌜ r ≡ dnaIn (now (reply .entry)) ⌝ }
 {
     number64(
-        word(byte_at(reply, 5), byte_at(reply, 6)),
-        word(byte_at(reply, 7), byte_at(reply, 8)),
-        word(byte_at(reply, 9), byte_at(reply, 10)),
-        word(byte_at(reply, 11), byte_at(reply, 12)),
+        word(reply[5], reply[6]),
+        word(reply[7], reply[8]),
+        word(reply[9], reply[10]),
+        word(reply[11], reply[12]),
     )
 }
 
 // Whether the reply's data are right for the frame sent.
 fn data_right(sent: [u8; 28], reply: &[u8]) -> bool
+    requires { ⌜ length (now reply) ≡ 28 ⌝ }
     ensures { λ r. ⌜ r ≡ dataRight sent (now (reply .entry)) ⌝ }
 {
     if sent[4] == 4 {
@@ -78,18 +82,37 @@ pub fn is_good(sent: [u8; 28], reply: &[u8]) -> bool
     if reply[4] != sent[4] {
         return false;
     }
-    if crc8(&reply[..27]) != reply[27] {
+    // The register after a right CRC is 0.
+    if crc8(&reply[..28]) != 0 {
         return false;
     }
-    data_right(sent, reply)
+    data_right(sent, &reply[..28])
+}
+
+// The DNA in a ping reply of another length.
+fn dna_in_any(reply: &[u8]) -> u64
+    ensures { λ r. ⌜ r ≡ dnaIn (now (reply .entry)) ⌝ }
+{
+    number64(
+        word(byte_at(reply, 5), byte_at(reply, 6)),
+        word(byte_at(reply, 7), byte_at(reply, 8)),
+        word(byte_at(reply, 9), byte_at(reply, 10)),
+        word(byte_at(reply, 11), byte_at(reply, 12)),
+    )
 }
 
 // What a ping reply carries; a byte that is not there counts as 0.
 pub fn carried(reply: &[u8]) -> PingReply
     ensures { λ r. ⌜ r ≡ carriedIn (now (reply .entry)) ⌝ }
 {
+    if reply.len() == 28 {
+        return PingReply {
+            dna: dna_in(reply),
+            crc_errors: reply[26],
+        };
+    }
     PingReply {
-        dna: dna_in(reply),
+        dna: dna_in_any(reply),
         crc_errors: byte_at(reply, 26),
     }
 }

@@ -7,6 +7,7 @@ use configuration::board_words;
 use configuration::settings_of;
 use frames::Code;
 use frames::frame;
+use frames::frame_before_crc;
 use refusals::Refusal;
 use refusals::Written;
 use replies::carried;
@@ -57,16 +58,26 @@ pub fn write_frame(f: [u8; 28], out: &mut [u8]) -> Written
     Written::Length(28)
 }
 
-// What a reply of any length says as the answer to the frame sent.
-pub fn hear(sent: [u8; 28], reply: &[u8]) -> Heard
+// What a reply of any length says as the answer to the frame sent. (A part lent on, even the whole, is not copied on the way; a slice handed
+// on is.)
+fn hear(sent: [u8; 28], reply: &[u8]) -> Heard
     ensures { λ r. ⌜ r ≡ heardIn sent (now (reply .entry)) ⌝ }
 {
-    let told = carried(reply);
+    let n = reply.len();
+    let told = carried(&reply[..n]);
     Heard {
         good: is_good(sent, reply),
         dna: told.dna,
         crc_errors: told.crc_errors,
     }
+}
+
+// What a reply of any length says as the answer to the frame of a step, whose CRC is not needed for it.
+pub fn hear_step(block: &[u16], c: u8, b: u8, code: u8, reply: &[u8]) -> Heard
+    ensures { λ r. ⌜ r ≡ heardIn (stepFrame (now (block .entry)) c b code) (now (reply .entry)) ⌝ }
+{
+    let settings = settings_of(board_words(block, c, b));
+    hear(frame_before_crc(c, b, code_numbered(code), settings), reply)
 }
 
 // What a time-up says.

@@ -5,7 +5,7 @@ use Rattle.crc.proofs.crc_byte.Statement.{statement}
 use Rattle.crc.proofs.crc_byte.Tie as tie
 
 returns : tie.Need-returns
-returns c = byte-step (c .args .register) (c .args .byte) (omega arith) (omega arith)
+returns c = byte-step (c .args .byte) (omega arith)
 
 pub crc-byte-spec : {M : Type 1} → statement M
 crc-byte-spec = tie.close (tie.spec returns)

@@ -1,174 +1,44 @@
--- `frames::frame_with` meets its contract: the bytes stored are those of five words, with their CRC. Assumes nothing.
-use mathlib.Core.Path.{_≡_, ap}
-use lib.ListN.{length}
-use Rattle.frames.specs.Frames.{frameWith}
-use Rattle.numbers.proofs.Listed.{listed}
+-- `frames::frame_with` meets its contract: the CRC goes into the place left for it. Assumes nothing.
+use Prim.Native.Nat.{ℕ}
+use mathlib.Core.Path.{_≡_, ap, _∙_}
+use mathlib.Core.List.{List}
+use lib.ListN.{length, take, length-take}
+use native.Mathlib.Omega.{arith}
+use Rattle.crc.specs.Crc.{crc}
+use Rattle.frames.proofs.Frames.{crc-stored}
 use borrow.Author.Needs.{needs}
 use Rattle.frames.proofs.frame_with.Statement.{statement}
 use Rattle.frames.proofs.frame_with.Tie as tie
 
-array-read-word-bytes : tie.Need-array-read-word-bytes
-array-read-word-bytes c = search needs
-
-word-bytes-requires : tie.Need-word-bytes-requires
-word-bytes-requires c κs = search needs
-
-array-read-word-bytes-2 : tie.Need-array-read-word-bytes-2
-array-read-word-bytes-2 c = search needs
-
-word-bytes-requires-2 : tie.Need-word-bytes-requires-2
-word-bytes-requires-2 c κs = search needs
-
-array-read-word-bytes-3 : tie.Need-array-read-word-bytes-3
-array-read-word-bytes-3 c = search needs
-
-word-bytes-requires-3 : tie.Need-word-bytes-requires-3
-word-bytes-requires-3 c κs = search needs
-
-array-read-word-bytes-4 : tie.Need-array-read-word-bytes-4
-array-read-word-bytes-4 c = search needs
-
-word-bytes-requires-4 : tie.Need-word-bytes-requires-4
-word-bytes-requires-4 c κs = search needs
-
-array-read-word-bytes-5 : tie.Need-array-read-word-bytes-5
-array-read-word-bytes-5 c = search needs
-
-word-bytes-requires-5 : tie.Need-word-bytes-requires-5
-word-bytes-requires-5 c κs = search needs
-
-array-write-f : tie.Need-array-write-f
-array-write-f c = search needs
-
-array-write-f-2 : tie.Need-array-write-f-2
-array-write-f-2 c = search needs
-
-array-write-f-3 : tie.Need-array-write-f-3
-array-write-f-3 c = search needs
-
-array-write-f-4 : tie.Need-array-write-f-4
-array-write-f-4 c = search needs
-
-array-read-f : tie.Need-array-read-f
-array-read-f c = search needs
-
-array-write-f-5 : tie.Need-array-write-f-5
-array-write-f-5 c = search needs
-
-array-read-f-2 : tie.Need-array-read-f-2
-array-read-f-2 c = search needs
-
-array-write-f-6 : tie.Need-array-write-f-6
-array-write-f-6 c = search needs
-
-array-read-f-3 : tie.Need-array-read-f-3
-array-read-f-3 c = search needs
-
-array-write-f-7 : tie.Need-array-write-f-7
-array-write-f-7 c = search needs
-
-array-read-f-4 : tie.Need-array-read-f-4
-array-read-f-4 c = search needs
-
-array-write-f-8 : tie.Need-array-write-f-8
-array-write-f-8 c = search needs
-
-array-read-f-5 : tie.Need-array-read-f-5
-array-read-f-5 c = search needs
-
-array-write-f-9 : tie.Need-array-write-f-9
-array-write-f-9 c = search needs
-
-array-read-f-6 : tie.Need-array-read-f-6
-array-read-f-6 c = search needs
-
-array-write-f-10 : tie.Need-array-write-f-10
-array-write-f-10 c = search needs
-
-array-read-f-7 : tie.Need-array-read-f-7
-array-read-f-7 c = search needs
-
-array-write-f-11 : tie.Need-array-write-f-11
-array-write-f-11 c = search needs
-
-array-read-f-8 : tie.Need-array-read-f-8
-array-read-f-8 c = search needs
-
-array-write-f-12 : tie.Need-array-write-f-12
-array-write-f-12 c = search needs
-
-array-read-f-9 : tie.Need-array-read-f-9
-array-read-f-9 c = search needs
-
-array-write-f-13 : tie.Need-array-write-f-13
-array-write-f-13 c = search needs
-
-array-read-f-10 : tie.Need-array-read-f-10
-array-read-f-10 c = search needs
-
-array-write-f-14 : tie.Need-array-write-f-14
-array-write-f-14 c = search needs
+before-crc-requires : tie.Need-before-crc-requires
+before-crc-requires c κs = search needs
 
 array-share-prefix-f : tie.Need-array-share-prefix-f
 array-share-prefix-f c = search needs
 
 slice-aggregate-crc8 : tie.Need-slice-aggregate-crc8
-slice-aggregate-crc8 c = search needs
+slice-aggregate-crc8 c =
+    let n : length (c .before .before-crc .result) ≡ 28 = search needs in
+    simp length-take (omega arith)
 
 crc8-requires : tie.Need-crc8-requires
 crc8-requires c κs = search needs
 
-array-write-f-15 : tie.Need-array-write-f-15
-array-write-f-15 c = search needs
+array-write-f : tie.Need-array-write-f
+array-write-f c = search needs
 
 returns : tie.Need-returns
-unfolding frameWith
 returns c =
-    let a = c .before .before .before .before .before .before .before .args in
-    let n : length (a .t3) ≡ 5 = search needs in
-    rw (c .crc8 .ensures, c .before .before .before .before .before .before .word-bytes .ensures, c .before .before .before .before .before .word-bytes2 .ensures, c .before .before .before .before .word-bytes3 .ensures, c .before .before .before .word-bytes4 .ensures, c .before .before .word-bytes5 .ensures)
-    (ap (frameWith (a .address) (a .number)) (listed (a .t3) 5 n))
+    let a = c .before .before .before .args in
+    rw (c .before .before .before-crc .ensures) (crc-stored (a .address) (a .number) (a .w) _ (c .crc8 .ensures ∙ ap (λ (f : List ℕ). crc (take 27 f)) (c .before .before .before-crc .ensures)))
 
 pub frame-with-spec : {M : Type 1} → statement M
 frame-with-spec =
     tie.close
     (tie.spec
-    array-read-word-bytes
-    word-bytes-requires
-    array-read-word-bytes-2
-    word-bytes-requires-2
-    array-read-word-bytes-3
-    word-bytes-requires-3
-    array-read-word-bytes-4
-    word-bytes-requires-4
-    array-read-word-bytes-5
-    word-bytes-requires-5
-    array-write-f
-    array-write-f-2
-    array-write-f-3
-    array-write-f-4
-    array-read-f
-    array-write-f-5
-    array-read-f-2
-    array-write-f-6
-    array-read-f-3
-    array-write-f-7
-    array-read-f-4
-    array-write-f-8
-    array-read-f-5
-    array-write-f-9
-    array-read-f-6
-    array-write-f-10
-    array-read-f-7
-    array-write-f-11
-    array-read-f-8
-    array-write-f-12
-    array-read-f-9
-    array-write-f-13
-    array-read-f-10
-    array-write-f-14
+    before-crc-requires
     array-share-prefix-f
     slice-aggregate-crc8
     crc8-requires
-    array-write-f-15
+    array-write-f
     returns)

@@ -1,6 +1,11 @@
 -- `replies::is_good` meets its contract: a return of false names the condition that fails. Assumes nothing.
-use lib.ListN.{length-take}
 use Rattle.replies.proofs.Laws.{bad-length, bad-first, bad-destination, bad-sender, bad-code, bad-crc, by-data}
+use Rattle.replies.proofs.Zero.{right-zero, zero-right}
+use mathlib.Core.Path.{_∙_, sym, ap}
+use lib.Seq.{take-all}
+use Rattle.replies.specs.Replies.{dataRight}
+use lib.ListN.{length-take}
+use denote.Ref.{now}
 use borrow.Author.Needs.{needs}
 use native.Mathlib.Omega.{arith}
 use Rattle.replies.proofs.is_good.Statement.{statement}
@@ -48,17 +53,24 @@ slice-aggregate-crc8 c = simp length-take (omega arith)
 crc8-requires : tie.Need-crc8-requires
 crc8-requires c κs = search needs
 
-shared-slice-read-if6 : tie.Need-shared-slice-read-if6
-shared-slice-read-if6 c = search needs
-
 returns-6 : tie.Need-returns-6
-returns-6 c = bad-crc _ _ (omega arith)
+returns-6 c = bad-crc _ _ (λ e. c .if6 .taken (c .before .crc8 .ensures ∙ right-zero (now (c .before .before .before .before .before .before .before .before .before .before .before .before .before .args .reply)) (omega arith) e))
+
+slice-aggregate-data-right : tie.Need-slice-aggregate-data-right
+slice-aggregate-data-right c = simp length-take (omega arith)
 
 data-right-requires : tie.Need-data-right-requires
-data-right-requires c κs = search needs
+data-right-requires c κs = simp length-take (omega arith)
 
 returns-7 : tie.Need-returns-7
-returns-7 c = by-data _ _ (omega arith) (omega arith) (omega arith) (omega arith) (omega arith) (omega arith) _ (c .data-right .ensures)
+returns-7 c =
+    let a = c .before .before .before .before .before .before .before .before .before .before .before .before .before .before .before .args in
+    let r = now (a .reply) in
+    let byte = c .before .before .before .before .before .before .shared-slice-known5 .given 27 in
+    by-data _ _ (omega arith) (omega arith) (omega arith) (omega arith) (omega arith)
+    (zero-right r (omega arith) (omega (arith, byte)) (sym (c .before .before .before .crc8 .ensures) ∙ c .before .before .if6 .left))
+    _
+    (c .data-right .ensures ∙ ap (dataRight (a .t1)) (take-all 28 r (omega arith)))
 
 pub is-good-spec : {M : Type 1} → statement M
 is-good-spec =
@@ -78,7 +90,7 @@ is-good-spec =
     returns-5
     slice-aggregate-crc8
     crc8-requires
-    shared-slice-read-if6
     returns-6
+    slice-aggregate-data-right
     data-right-requires
     returns-7)

@@ -1,8 +1,16 @@
 -- `steps::hear` meets its contract. Assumes nothing.
+use mathlib.Core.Path.{_≡_}
+use lib.ListN.{take, length, length-take}
+use lib.Seq.{take-length}
+use native.Mathlib.Omega.{arith}
+use denote.Ref.{now}
 use Rattle.steps.specs.Steps.{heardIn}
 use borrow.Author.Needs.{needs}
 use Rattle.steps.proofs.hear.Statement.{statement}
 use Rattle.steps.proofs.hear.Tie as tie
+
+slice-aggregate-carried : tie.Need-slice-aggregate-carried
+slice-aggregate-carried c = simp length-take (omega arith)
 
 carried-requires : tie.Need-carried-requires
 carried-requires c κs = search needs
@@ -12,7 +20,10 @@ is-good-requires c κs = search needs
 
 returns : tie.Need-returns
 unfolding heardIn
-returns c = rw (c .before .carried .ensures, c .is-good .ensures)
+returns c =
+    let r = now (c .before .before .before .before .args .reply) in
+    let whole : take (length r) r ≡ r = take-length r in
+    rw (c .is-good .ensures, c .before .carried .ensures, whole)
 
 pub hear-spec : {M : Type 1} → statement M
-hear-spec = tie.close (tie.spec carried-requires is-good-requires returns)
+hear-spec = tie.close (tie.spec slice-aggregate-carried carried-requires is-good-requires returns)

@@ -12,14 +12,11 @@ outstanding-on-requires c κs = search needs
 enum-known-board : tie.Need-enum-known-board
 enum-known-board c = search needs
 
-slice-aggregate-step-frame : tie.Need-slice-aggregate-step-frame
-slice-aggregate-step-frame c = search needs
+slice-aggregate-hear-step : tie.Need-slice-aggregate-hear-step
+slice-aggregate-hear-step c = search needs
 
-step-frame-requires : tie.Need-step-frame-requires
-step-frame-requires c κs = search needs
-
-hear-requires : tie.Need-hear-requires
-hear-requires c κs = search needs
+hear-step-requires : tie.Need-hear-step-requires
+hear-step-requires c κs = search needs
 
 serve-requires : tie.Need-serve-requires
 serve-requires c κs = search needs
@@ -34,7 +31,7 @@ serve-requires-2 : tie.Need-serve-requires-2
 serve-requires-2 c κs = search needs
 
 returns : tie.Need-returns
-returns c = rw (c .before .hear .ensures, c .before .before .step-frame .ensures, frame-of (c .before .before .before .before .before .before .before .before .before .before .before .args .self) (c .before .before .before .before .before .before .before .before .before .before .before .args .index) _ _ (sym (ap outstandingOnPaper (c .before .before .before .before .before .board .given .1)) ∙ c .before .before .before .before .before .before .before .outstanding-on .ensures)) at (c .serve .ensures)
+returns c = rw (c .before .hear-step .ensures, frame-of (c .before .before .before .before .before .before .before .before .before .before .args .self) (c .before .before .before .before .before .before .before .before .before .before .args .index) _ _ (sym (ap outstandingOnPaper (c .before .before .before .before .board .given .1)) ∙ c .before .before .before .before .before .before .outstanding-on .ensures)) at (c .serve .ensures)
 
 returns-2 : tie.Need-returns-2
 returns-2 c = any-heard (c .before .before .before .before .before .before .before .before .args .self) (c .before .before .before .before .before .before .before .before .args .index) (c .before .before .enum-told .given .0 .0) (sym (ap outstandingOnPaper (c .before .before .enum-told .given .1)) ∙ c .before .before .before .before .outstanding-on .ensures) _ _ _ (c .serve2 .ensures)
@@ -45,9 +42,8 @@ reply-spec =
     (tie.spec
     outstanding-on-requires
     enum-known-board
-    slice-aggregate-step-frame
-    step-frame-requires
-    hear-requires
+    slice-aggregate-hear-step
+    hear-step-requires
     serve-requires
     enum-told
     nothing-heard-requires

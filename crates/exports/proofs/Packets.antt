@@ -1,0 +1,46 @@
+-- Packets read one after another.
+-- Assumes nothing.
+use Prim.Native.Nat.{ℕ, suc, _+_, _*_, _-_, _<_, _≤_}
+use native.Mathlib.Nat.{zero-add, sub-zero}
+use native.Mathlib.Omega.{arith}
+use mathlib.Core.Path.{_≡_, ap, _∙_}
+use mathlib.Core.List.{List}
+use lib.ListN.{take, drop}
+use lib.Seq.{drop-drop}
+use Rattle.packets.specs.Packets.{packetAnswer}
+use Rattle.exports.specs.Exports.{goodPacket, goodFrom}
+
+-- i parts of a size, and one more
+pub past : (size i : ℕ) (l : List ℕ) → drop size (drop (size * i) l) ≡ drop (size * (i + 1)) l
+past size i l = let e : size * i + size ≡ size * (i + 1) = omega arith in drop-drop size (size * i) l ∙ ap (λ (k : ℕ). drop k l) e
+
+pub one-left : (n i : ℕ) → i < n → n - i ≡ suc (n - (i + 1))
+one-left n i h = omega arith
+
+pub packet-next : (n i : ℕ) (bytes : List ℕ) → i < n
+    → goodFrom (n - i) (drop (7 * i) bytes)
+    ≡ goodPacket (packetAnswer (take 7 (drop (7 * i) bytes))) + goodFrom (n - (i + 1)) (drop (7 * (i + 1)) bytes)
+unfolding goodFrom
+packet-next n i bytes h =
+    ap (λ (k : ℕ). goodFrom k (drop (7 * i) bytes)) (one-left n i h)
+    ∙ ap (λ (l : List ℕ). goodPacket (packetAnswer (take 7 (drop (7 * i) bytes))) + goodFrom (n - (i + 1)) l) (past 7 i bytes)
+
+-- ---- the loop: `good` of the first i packets of n are good
+
+pub packet-start : (n : ℕ) (bytes : List ℕ) → 0 + goodFrom (n - 0) bytes ≡ goodFrom n bytes
+packet-start n bytes = zero-add (goodFrom (n - 0) bytes) ∙ ap (λ (k : ℕ). goodFrom k bytes) (sub-zero n)
+
+module _ (bytes : List ℕ) (n i good : ℕ) (inv : good + goodFrom (n - i) (drop (7 * i) bytes) ≡ goodFrom n bytes) where
+  pub packet-turn : (g k : ℕ) → i < n → k ≡ 7 → g ≡ goodPacket (packetAnswer (take k (drop (7 * i) bytes)))
+      → good + g + goodFrom (n - (i + 1)) (drop (7 * (i + 1)) bytes) ≡ goodFrom n bytes
+  packet-turn g k l ek e =
+      let p : g ≡ goodPacket (packetAnswer (take 7 (drop (7 * i) bytes))) = e ∙ ap (λ (j : ℕ). goodPacket (packetAnswer (take j (drop (7 * i) bytes)))) ek in
+      let q = packet-next n i bytes l in
+      omega arith
+
+  pub packet-end : n ≤ i → good ≡ goodFrom n bytes
+  unfolding goodFrom
+  packet-end h =
+      let e : n - i ≡ 0 = omega arith in
+      let z : goodFrom (n - i) (drop (7 * i) bytes) ≡ 0 = ap (λ (k : ℕ). goodFrom k (drop (7 * i) bytes)) e in
+      omega arith

@@ -1,0 +1,162 @@
+-- Triggers one after another.
+-- Assumes nothing.
+use Prim.Native.Nat.{ℕ, suc, _+_, _*_, _-_, _/_, _<_, _≤_}
+use native.Mathlib.Omega.{arith}
+use mathlib.Core.Path.{_≡_, refl, sym, ap, _∙_}
+use mathlib.Core.Bool.{cond}
+use mathlib.Core.List.{List, [], _∷_, _++_, append-nil, append-assoc}
+use lib.ListN.{length, take, drop, length-append, length-drop, take-append-drop, drop-of-length-le}
+use lib.Seq.{length-take-le, take-at, drop-at}
+use borrow.Author.Tests.{le-ltb}
+use Rattle.refusals.specs.Tables.{Answer, given, refused, Rule, lowest}
+use Rattle.refusals.specs.Writing.{writing, writtenOnPaper, laid}
+use Rattle.refusals.specs.declared.Refusal.{Refusal}
+use Rattle.refusals.specs.declared.Written.the-variants.{Length, Refused}
+use Rattle.packets.specs.Packets.{plain, packetBytes}
+use Rattle.run.specs.Run.{triggerNumber, triggerRules, triggerAnswer, afterTrigger, afterAnswer, Triggers}
+use Rattle.run.specs.declared.Run.{Run}
+use Rattle.run.specs.declared.Triggered.{Triggered}
+use Rattle.exports.specs.Exports.{four, packetThen, packetsOf, GivesTriggers}
+use Rattle.exports.proofs.Packets.{past, one-left}
+use Rattle.words.proofs.Laws.{part-rest}
+
+-- rows at the end that do not apply change nothing
+rows-before : {A : Type 0} (rs more : List Rule) (a : A) → lowest more a ≡ given a → lowest (rs ++ more) a ≡ lowest rs a
+rows-before [] more a e = e
+rows-before {A} (r ∷ rs) more a e = ap (λ (x : Answer A). cond (r .applies) (refused (r .number) (r .place)) x) (rows-before rs more a e)
+
+pub packet-size : (r : Run) → length (packetBytes (triggerNumber r) four) ≡ 7
+unfolding plain
+packet-size r = refl
+
+-- where there is room for a packet, the answer is that of a trigger's own rows
+room : (r : Run) (out : List ℕ) → 7 ≤ length out → triggerAnswer r four out ≡ lowest (triggerRules r four) 7
+unfolding writing plain
+room r out h = rows-before (triggerRules r four) _ 7 (rw (le-ltb _ _ h) refl)
+
+module _ (r : Run) (m : ℕ) (out : List ℕ) (t : Triggered) (after : List ℕ) (s : Triggers r four out t after) (h : 7 ≤ length out) where
+  told : lowest (triggerRules r four) 7 ≡ writtenOnPaper (t .answer)
+  told = sym (room r out h) ∙ sym (s .packet .answer)
+
+  abbrev packet : List ℕ
+  packet = packetBytes (triggerNumber r) four
+
+  module _ (k : ℕ) (e : t .answer ≡ Length k) where
+    answered : triggerAnswer r four out ≡ given k
+    answered = sym (s .packet .answer) ∙ ap writtenOnPaper e
+
+    pub given-packets : packetsOf (suc m) r ≡ packet ++ packetsOf m (t .run)
+    unfolding packetsOf
+    given-packets =
+        ap (λ (a : Answer ℕ). packetThen a packet (packetsOf m (afterTrigger r))) (told ∙ ap writtenOnPaper e)
+        ∙ ap (λ (q : Run). packet ++ packetsOf m q) (sym (s .run ∙ ap (afterAnswer r) answered))
+
+    pub given-output : after ≡ packet ++ drop 7 out
+    given-output = s .packet .output ∙ ap (λ (a : Answer ℕ). laid a packet out) answered ∙ ap (λ (n : ℕ). packet ++ drop n out) (packet-size r)
+
+  module _ (f : Refusal) (e : t .answer ≡ Refused f) where
+    pub refused-packets : packetsOf (suc m) r ≡ []
+    unfolding packetsOf
+    refused-packets = ap (λ (a : Answer ℕ). packetThen a packet (packetsOf m (afterTrigger r))) (told ∙ ap writtenOnPaper e)
+
+    pub refused-output : after ≡ out
+    refused-output = s .packet .output ∙ ap (λ (a : Answer ℕ). laid a packet out) (sym (s .packet .answer) ∙ ap writtenOnPaper e)
+
+-- ---- a turn of the loop
+
+-- p in the place of as much of a list
+module _ (out p : List ℕ) (a b : ℕ) (end : a + length p ≡ b) (fits : b ≤ length out) where
+  abbrev put : List ℕ
+  put = take a out ++ (p ++ drop b out)
+
+  put-front : length (take a out ++ p) ≡ b
+  put-front = length-append (take a out) p ∙ ap (λ (k : ℕ). k + length p) (length-take-le a out (omega arith)) ∙ end
+
+  put-take : take b put ≡ take a out ++ p
+  put-take = ap (take b) (sym (append-assoc (take a out) p (drop b out))) ∙ take-at (take a out ++ p) (drop b out) b put-front
+
+  put-drop : drop b put ≡ drop b out
+  put-drop = ap (drop b) (sym (append-assoc (take a out) p (drop b out))) ∙ drop-at (take a out ++ p) (drop b out) b put-front
+
+  put-length : length put ≡ length out
+  put-length =
+      ap length (sym (append-assoc (take a out) p (drop b out)))
+      ∙ length-append (take a out ++ p) (drop b out)
+      ∙ ap (λ (k : ℕ). k + length (drop b out)) put-front
+      ∙ ap (λ (k : ℕ). b + k) (length-drop b out)
+      ∙ (let e : b + (length out - b) ≡ length out = omega arith in e)
+
+-- the part of `out` from a on, which became `after`, is back
+back : (out after : List ℕ) (a : ℕ) → take a out ++ (after ++ drop (length out - a) (drop a out)) ≡ take a out ++ after
+back out after a =
+    ap (λ (l : List ℕ). take a out ++ (after ++ l)) (drop-of-length-le (drop a out) {i = length out - a} (rw length-drop (omega arith)))
+    ∙ ap (λ (l : List ℕ). take a out ++ l) (append-nil after)
+
+-- The first i triggers of n were given on the run `first`, and left the run r: their packets stand in front.
+pub record TriggersSoFar (first : Run) (n i : ℕ) (out₀ out : List ℕ) (r : Run) : Type 0 where
+  pub same : length out ≡ length out₀
+  pub all : packetsOf n first ≡ take (7 * i) out ++ packetsOf (n - i) r
+  pub rest : drop (7 * i) out ≡ drop (7 * i) out₀
+
+pub none-given : (first : Run) (n : ℕ) (out : List ℕ) → TriggersSoFar first n 0 out out first
+none-given first n out = record { same = refl; all = ap (λ (k : ℕ). packetsOf k first) (let e : n ≡ n - 0 = omega arith in e); rest = refl }
+
+-- and no more are
+all-given : (first : Run) (n i : ℕ) (out₀ out : List ℕ) (r : Run) → TriggersSoFar first n i out₀ out r → n ≡ length out₀ / 7 → i ≤ n → packetsOf (n - i) r ≡ [] → GivesTriggers first out₀ i out
+all-given first n i out₀ out r g en m e =
+    let same = g .same in
+    let all : packetsOf (length out₀ / 7) first ≡ take (7 * i) out =
+    ap (λ (k : ℕ). packetsOf k first) (sym en) ∙ g .all ∙ ap (λ (l : List ℕ). take (7 * i) out ++ l) e ∙ append-nil (take (7 * i) out) in
+    let size : length (packetsOf (length out₀ / 7) first) ≡ 7 * i = ap length all ∙ length-take-le (7 * i) out (omega arith) in
+    record {
+      number = omega arith;
+      packets =
+          sym (take-append-drop (7 * i) out)
+          ∙ ap (λ (l : List ℕ). take (7 * i) out ++ l) (g .rest)
+          ∙ ap (λ (k : ℕ). take (7 * i) out ++ drop k out₀) (sym size)
+          ∙ ap (λ (l : List ℕ). l ++ drop (length (packetsOf (length out₀ / 7) first)) out₀) (sym all);
+    }
+
+pub at-end : (first : Run) (n i : ℕ) (out₀ out : List ℕ) (r : Run) → TriggersSoFar first n i out₀ out r → n ≡ length out₀ / 7 → i ≤ n → n ≤ i → GivesTriggers first out₀ i out
+unfolding packetsOf
+at-end first n i out₀ out r g en l m = all-given first n i out₀ out r g en l (ap (λ (k : ℕ). packetsOf k r) (let e : n - i ≡ 0 = omega arith in e))
+
+module _ (first : Run) (n i : ℕ) (out₀ out : List ℕ) (r : Run) (g : TriggersSoFar first n i out₀ out r) (en : n ≡ length out₀ / 7) (l : i < n)
+    (t : Triggered) (after : List ℕ) (s : Triggers r four (take (length out - 7 * i) (drop (7 * i) out)) t after) where
+  abbrev part : List ℕ
+  part = drop (7 * i) out
+
+  served : Triggers r four part t after
+  served = rw (part-rest out (7 * i)) at s
+
+  room-left : 7 ≤ length part
+  room-left = let same = g .same in rw length-drop (omega arith)
+
+  pub one-given : (k : ℕ) → t .answer ≡ Length k → TriggersSoFar first n (i + 1) out₀ (take (7 * i) out ++ (after ++ drop (length out - 7 * i) part)) (t .run)
+  one-given k e =
+      let same = g .same in
+      let p = packetBytes (triggerNumber r) four in
+      let size : 7 * i + length p ≡ 7 * (i + 1) = ap (λ (m : ℕ). 7 * i + m) (packet-size r) ∙ (let q : 7 * i + 7 ≡ 7 * (i + 1) = omega arith in q) in
+      let fits : 7 * (i + 1) ≤ length out = omega arith in
+      let whole : take (7 * i) out ++ (after ++ drop (length out - 7 * i) part) ≡ put out p (7 * i) (7 * (i + 1)) size fits =
+      back out after (7 * i)
+      ∙ ap (λ (x : List ℕ). take (7 * i) out ++ x) (given-output r (n - (i + 1)) part t after served room-left k e)
+      ∙ ap (λ (x : List ℕ). take (7 * i) out ++ (p ++ x)) (past 7 i out) in
+      record {
+        same = ap length whole ∙ put-length out p (7 * i) (7 * (i + 1)) size fits ∙ same;
+        all =
+            g .all
+            ∙ ap (λ (m : ℕ). take (7 * i) out ++ packetsOf m r) (one-left n i l)
+            ∙ ap (λ (x : List ℕ). take (7 * i) out ++ x) (given-packets r (n - (i + 1)) part t after served room-left k e)
+            ∙ sym (append-assoc (take (7 * i) out) p (packetsOf (n - (i + 1)) (t .run)))
+            ∙ ap (λ (x : List ℕ). x ++ packetsOf (n - (i + 1)) (t .run)) (sym (ap (take (7 * (i + 1))) whole ∙ put-take out p (7 * i) (7 * (i + 1)) size fits));
+        rest = ap (drop (7 * (i + 1))) whole ∙ put-drop out p (7 * i) (7 * (i + 1)) size fits ∙ sym (past 7 i out) ∙ ap (drop 7) (g .rest) ∙ past 7 i out₀;
+      }
+
+  pub one-refused : (f : Refusal) → t .answer ≡ Refused f → GivesTriggers first out₀ i (take (7 * i) out ++ (after ++ drop (length out - 7 * i) part))
+  one-refused f e =
+      let whole : take (7 * i) out ++ (after ++ drop (length out - 7 * i) part) ≡ out =
+      back out after (7 * i)
+      ∙ ap (λ (x : List ℕ). take (7 * i) out ++ x) (refused-output r (n - (i + 1)) part t after served room-left f e)
+      ∙ take-append-drop (7 * i) out in
+      rw whole (all-given first n i out₀ out r g en (omega arith) (ap (λ (m : ℕ). packetsOf m r) (one-left n i l) ∙ refused-packets r (n - (i + 1)) part t after served room-left f e))

@@ -1,0 +1,87 @@
+-- `exports::ftm_static` meets its contract. Assumes nothing.
+use Rattle.block_reader.specs.declared.BlockRead.{BlockRead}
+use denote.Ref.{now}
+use mathlib.Core.Path.{sym, ap, _∙_}
+use Rattle.block_reader.specs.Reading.{readOnPaper}
+use Rattle.exports.specs.Exports.{answerNumber}
+use Rattle.exports.proofs.Static.{front-length, front-fits, static-refused, static-read}
+use borrow.Author.Needs.{needs}
+use Rattle.exports.proofs.ftm_static.Statement.{statement}
+use Rattle.exports.proofs.ftm_static.Tie as tie
+
+slice-aggregate-copy-words : tie.Need-slice-aggregate-copy-words
+slice-aggregate-copy-words c = search needs
+
+copy-words-requires : tie.Need-copy-words-requires
+copy-words-requires c κs = search needs
+
+write-static-requires : tie.Need-write-static-requires
+write-static-requires c κs = search needs
+
+enum-known-r : tie.Need-enum-known-r
+enum-known-r c = search needs
+
+number-requires : tie.Need-number-requires
+number-requires c κs = search needs
+
+enum-known-n : tie.Need-enum-known-n
+enum-known-n c = search needs
+
+slice-reshare-prefix-read-block : tie.Need-slice-reshare-prefix-read-block
+slice-reshare-prefix-read-block c = front-fits _ _ (c .before .before .before .before .before .write-static .result) _ (c .before .before .before .before .before .write-static .ensures) _ (c .before .n .given .1)
+
+slice-aggregate-read-block : tie.Need-slice-aggregate-read-block
+slice-aggregate-read-block c = front-length _ _ (c .before .before .before .before .before .before .write-static .result) _ (c .before .before .before .before .before .before .write-static .ensures) _ (c .before .before .n .given .1)
+
+read-block-requires : tie.Need-read-block-requires
+read-block-requires c κs = search needs
+
+enum-told : tie.Need-enum-told
+enum-told c = search needs
+
+enum-known-r-2 : tie.Need-enum-known-r-2
+enum-known-r-2 c = search needs
+
+number-requires-2 : tie.Need-number-requires-2
+number-requires-2 c κs = search needs
+
+same-length : tie.Need-same-length
+same-length c = search needs
+
+returns : tie.Need-returns
+returns c = static-refused (now (c .before .before .before .before .before .before .before .before .before .before .before .before .before .args .block)) _ _ (c .before .before .before .before .before .before .before .before .before .copy-words .ensures) _ _ (c .before .before .before .before .before .before .write-static .ensures) _ _ (c .before .before .r .given .1) (c .number .ensures)
+
+same-length-2 : tie.Need-same-length-2
+same-length-2 c = search needs
+
+returns-2 : tie.Need-returns-2
+returns-2 c = static-read (now (c .before .before .before .before .before .before .before .before .before .before .before .before .before .before .before .before .args .block)) _ _ (c .before .before .before .before .before .before .before .before .before .before .before .before .copy-words .ensures) _ _ (c .before .before .before .before .before .before .before .before .before .write-static .ensures) _ _ (c .before .before .before .before .before .n .given .1) (c .before .before .read-block .result) (c .before .before .read-block .ensures) (ap (λ (b : BlockRead). answerNumber (readOnPaper b)) (sym (c .enum-told .given .1)))
+
+same-length-3 : tie.Need-same-length-3
+same-length-3 c = search needs
+
+returns-3 : tie.Need-returns-3
+returns-3 c = static-read (now (c .before .before .before .before .before .before .before .before .before .before .before .before .before .before .before .before .before .before .args .block)) _ _ (c .before .before .before .before .before .before .before .before .before .before .before .before .before .before .copy-words .ensures) _ _ (c .before .before .before .before .before .before .before .before .before .before .before .write-static .ensures) _ _ (c .before .before .before .before .before .before .before .n .given .1) (c .before .before .before .before .read-block .result) (c .before .before .before .before .read-block .ensures) (c .number2 .ensures ∙ ap (λ (b : BlockRead). answerNumber (readOnPaper b)) (sym (c .before .before .r2 .given .1)))
+
+pub ftm-static-spec : {M : Type 1} → statement M
+ftm-static-spec =
+    tie.close
+    (tie.spec
+    slice-aggregate-copy-words
+    copy-words-requires
+    write-static-requires
+    enum-known-r
+    number-requires
+    enum-known-n
+    slice-reshare-prefix-read-block
+    slice-aggregate-read-block
+    read-block-requires
+    enum-told
+    enum-known-r-2
+    number-requires-2
+    same-length
+    returns
+    same-length-2
+    returns-2
+    same-length-3
+    returns-3)
