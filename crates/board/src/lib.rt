@@ -1,12 +1,14 @@
 // The board: its state, and every call on it in the order of 01.
 ghost use mathlib.Core.Path.{_≡_};
+ghost use mathlib.Core.Bool.{true, cond};
 ghost use mathlib.Core.List.{[]};
 ghost use Prim.Native.Nat.{_≤_};
 ghost use lib.ListN.{length};
 ghost use Rattle.refusals.specs.Writing.{Wrote};
 ghost use Rattle.blocks.specs.Blocks.{measurementRules};
 ghost use Rattle.acceptance.specs.Acceptance.{answerOnPaper};
-ghost use Rattle.run.specs.Run.{clockedRun};
+ghost use Rattle.run.specs.Run.{clockedRun, refreshed};
+ghost use Rattle.crate_pass.specs.declared.PassKind.the-variants.{Reprogramming, Ping};
 ghost use Rattle.steps.specs.Steps.{heardIn, silence};
 ghost use Rattle.four_crates.specs.FourCrates.{sentOnPaper};
 ghost use Rattle.board.specs.State.{activeWords, isIdle, situationOf, withRun, withCrates, freshBoard, PowersUp};
@@ -151,6 +153,39 @@ fn active_words(block: [u16; 436]) -> [u16; 4]
     [block[0x1B0], block[0x1B1], block[0x1B2], block[0x1B3]]
 }
 
+// The kind of the pass that a write or a ping begins.
+fn kind_of(is_write: bool) -> PassKind
+    ensures { λ r. ⌜ r ≡ cond «is_write» Reprogramming Ping ⌝ }
+{
+    if is_write {
+        PassKind::Reprogramming
+    } else {
+        PassKind::Ping
+    }
+}
+
+// The run after a write, which sets fresh, or a ping.
+fn run_after(run: Run, is_write: bool) -> Run
+    ensures { λ r. ⌜ r ≡ cond «is_write» (refreshed run) run ⌝ }
+{
+    if is_write { run.refresh() } else { run }
+}
+
+// The block stored after a write or a ping.
+fn block_after(block: [u16; 436], is_write: bool, words: &[u16]) -> [u16; 436]
+    requires { ⌜ («is_write» ≡ true → 441 ≤ length (now words)) ⌝ }
+    ensures { λ r. ⌜ r ≡ cond «is_write» (blockIn (now (words .entry))) block ⌝ }
+{
+    if is_write { block_in(words) } else { block }
+}
+
+// The active words of the last ping, after a write or a ping that finds the words `flags`.
+fn active_after(active: [u16; 4], is_write: bool, flags: [u16; 4]) -> [u16; 4]
+    ensures { λ r. ⌜ r ≡ cond «is_write» active flags ⌝ }
+{
+    if is_write { active } else { flags }
+}
+
 impl Board {
     // Not running, and no pass under way.
     pub fn is_idle(self) -> bool
@@ -195,42 +230,28 @@ impl Board {
         }
     }
 
-    // A write stores the block, sets fresh and begins a reprogramming pass.
-    fn write(self, block: [u16; 436]) -> Board
-        ensures { λ r. ⌜ r ≡ written self block ⌝ }
-    {
-        let identity = self.identity;
-        let run = self.run;
-        let active = self.active;
-        let crates = self.crates;
-        let fresh = run.refresh();
-        let begun = begin_all(crates, PassKind::Reprogramming, active_words(block));
-        Board {
-            identity,
-            run: fresh,
-            block,
-            kind: PassKind::Reprogramming,
-            active,
-            crates: begun,
-        }
-    }
-
-    // A ping keeps the active words as they stand, and begins.
-    fn ping(self) -> Board
-        ensures { λ r. ⌜ r ≡ pinged self ⌝ }
+    // A pass begins: a write stores the block and sets fresh, a ping keeps the active words as they stand.
+    fn begin(self, is_write: bool, words: &[u16]) -> Board
+        requires { ⌜ («is_write» ≡ true → 441 ≤ length (now words)) ⌝ }
+        ensures { λ r. ⌜ r ≡ cond «is_write» (written self (blockIn (now (words .entry)))) (pinged self) ⌝ }
     {
         let identity = self.identity;
         let run = self.run;
         let block = self.block;
+        let active = self.active;
         let crates = self.crates;
-        let active = active_words(block);
-        let begun = begin_all(crates, PassKind::Ping, active);
+        let kind = kind_of(is_write);
+        let next_run = run_after(run, is_write);
+        let next_block = block_after(block, is_write, words);
+        let flags = active_words(next_block);
+        let next_active = active_after(active, is_write, flags);
+        let begun = begin_all(crates, kind, flags);
         Board {
             identity,
-            run,
-            block,
-            kind: PassKind::Ping,
-            active,
+            run: next_run,
+            block: next_block,
+            kind,
+            active: next_active,
             crates: begun,
         }
     }
@@ -245,11 +266,10 @@ impl Board {
             CommandAnswer::Refused(_) => self,
             CommandAnswer::Obeyed(c) => match c {
                 Command::Read(_) => self,
-                Command::Write => self.write(block_in(words)),
                 Command::Start(length) => self.with_run(run.start(length)),
                 Command::Stop => self.with_run(run.stop()),
-                Command::Ping => self.ping(),
                 Command::CrateReset(_) => self,
+                Command::Write | Command::Ping => self.begin(c.is_write(), words),
             },
         }
     }

@@ -1,10 +1,8 @@
 -- `board::Board::carry_out` meets its contract. Assumes nothing.
-use Rattle.board.proofs.Obeying.{write-long, after-refusal, after-obeyed}
-use Rattle.board.specs.Commands.{written}
-use Rattle.board.specs.State.{withRun}
 use denote.Ref.{now}
-use Rattle.refusals.specs.Tables.{given}
 use mathlib.Core.Path.{refl, ap, _∙_}
+use Rattle.board.specs.State.{withRun}
+use Rattle.board.proofs.Obeying.{write-long, after-refusal, after-obeyed, after-pass}
 use borrow.Author.Needs.{needs}
 use Rattle.board.proofs.Board.carry_out.Statement.{statement}
 use Rattle.board.proofs.Board.carry_out.Tie as tie
@@ -18,15 +16,6 @@ enum-known-answer c = search needs
 enum-told-2 : tie.Need-enum-told-2
 enum-told-2 c = search needs
 
-enum-told-3 : tie.Need-enum-told-3
-enum-told-3 c = search needs
-
-block-in-requires : tie.Need-block-in-requires
-block-in-requires c κs = let a = c .before .before .before .before .before .before .before .args in write-long (a .self) (now (a .words)) (a .answer) (c .before .before .before .before .before .before .before .pre) _ (c .before .before .before .answer .given .1) (c .enum-told3 .given .1)
-
-write-requires : tie.Need-write-requires
-write-requires c κs = search needs
-
 enum-known-c : tie.Need-enum-known-c
 enum-known-c c = search needs
 
@@ -36,8 +25,8 @@ start-requires c κs = search needs
 with-run-requires : tie.Need-with-run-requires
 with-run-requires c κs = search needs
 
-enum-told-4 : tie.Need-enum-told-4
-enum-told-4 c = search needs
+enum-told-3 : tie.Need-enum-told-3
+enum-told-3 c = search needs
 
 stop-requires : tie.Need-stop-requires
 stop-requires c κs = search needs
@@ -45,14 +34,14 @@ stop-requires c κs = search needs
 with-run-requires-2 : tie.Need-with-run-requires-2
 with-run-requires-2 c κs = search needs
 
-enum-told-5 : tie.Need-enum-told-5
-enum-told-5 c = search needs
+enum-told-4 : tie.Need-enum-told-4
+enum-told-4 c = search needs
 
-ping-requires : tie.Need-ping-requires
-ping-requires c κs = search needs
+is-write-requires : tie.Need-is-write-requires
+is-write-requires c κs = search needs
 
-enum-told-6 : tie.Need-enum-told-6
-enum-told-6 c = search needs
+begin-requires : tie.Need-begin-requires
+begin-requires c κs = let a = c .before .before .before .before .before .before .before .args in write-long (a .self) (now (a .words)) (a .answer) (c .before .before .before .before .before .before .before .pre) _ (c .before .before .before .answer .given .1) _ (c .is-write .ensures)
 
 returns : tie.Need-returns
 returns c = let a = c .before .before .before .before .args in after-refusal (a .self) (now (a .words)) (a .answer) (c .before .before .before .before .pre) _ (c .enum-told .given .1)
@@ -61,19 +50,16 @@ returns-2 : tie.Need-returns-2
 returns-2 c = let a = c .before .before .before .before .before .before .before .args in after-obeyed (a .self) (now (a .words)) (a .answer) (c .before .before .before .before .before .before .before .pre) _ _ (c .before .before .before .answer .given .1) (c .enum-told2 .given .1) _ (refl)
 
 returns-3 : tie.Need-returns-3
-returns-3 c = let a = c .before .before .before .before .before .before .before .before .before .args in after-obeyed (a .self) (now (a .words)) (a .answer) (c .before .before .before .before .before .before .before .before .before .pre) _ _ (c .before .before .before .before .before .answer .given .1) (c .before .before .enum-told3 .given .1) _ (c .write .ensures ∙ ap (written (a .self)) (c .before .block-in .ensures))
+returns-3 c = let a = c .before .before .before .before .before .before .before .before .before .before .args in after-obeyed (a .self) (now (a .words)) (a .answer) (c .before .before .before .before .before .before .before .before .before .before .pre) _ _ (c .before .before .before .before .before .before .answer .given .1) (c .before .before .before .c .given .1) _ (c .with-run .ensures ∙ ap (withRun (a .self)) (c .before .start .ensures))
 
 returns-4 : tie.Need-returns-4
-returns-4 c = let a = c .before .before .before .before .before .before .before .before .before .before .args in after-obeyed (a .self) (now (a .words)) (a .answer) (c .before .before .before .before .before .before .before .before .before .before .pre) _ _ (c .before .before .before .before .before .before .answer .given .1) (c .before .before .before .c .given .1) _ (c .with-run .ensures ∙ ap (withRun (a .self)) (c .before .start .ensures))
+returns-4 c = let a = c .before .before .before .before .before .before .before .before .before .args in after-obeyed (a .self) (now (a .words)) (a .answer) (c .before .before .before .before .before .before .before .before .before .pre) _ _ (c .before .before .before .before .before .answer .given .1) (c .before .before .enum-told3 .given .1) _ (c .with-run2 .ensures ∙ ap (withRun (a .self)) (c .before .stop .ensures))
 
 returns-5 : tie.Need-returns-5
-returns-5 c = let a = c .before .before .before .before .before .before .before .before .before .args in after-obeyed (a .self) (now (a .words)) (a .answer) (c .before .before .before .before .before .before .before .before .before .pre) _ _ (c .before .before .before .before .before .answer .given .1) (c .before .before .enum-told4 .given .1) _ (c .with-run2 .ensures ∙ ap (withRun (a .self)) (c .before .stop .ensures))
+returns-5 c = let a = c .before .before .before .before .before .before .before .args in after-obeyed (a .self) (now (a .words)) (a .answer) (c .before .before .before .before .before .before .before .pre) _ _ (c .before .before .before .answer .given .1) (c .enum-told4 .given .1) _ (refl)
 
 returns-6 : tie.Need-returns-6
-returns-6 c = let a = c .before .before .before .before .before .before .before .before .args in after-obeyed (a .self) (now (a .words)) (a .answer) (c .before .before .before .before .before .before .before .before .pre) _ _ (c .before .before .before .before .answer .given .1) (c .before .enum-told5 .given .1) _ (c .ping .ensures)
-
-returns-7 : tie.Need-returns-7
-returns-7 c = let a = c .before .before .before .before .before .before .before .args in after-obeyed (a .self) (now (a .words)) (a .answer) (c .before .before .before .before .before .before .before .pre) _ _ (c .before .before .before .answer .given .1) (c .enum-told6 .given .1) _ (refl)
+returns-6 c = let a = c .before .before .before .before .before .before .before .before .args in after-pass (a .self) (now (a .words)) (a .answer) (c .before .before .before .before .before .before .before .before .pre) (c .before .before .before .before .answer .given .0 .0) (c .before .before .before .before .answer .given .1) (c .before .before .match2 .keys5) _ (c .before .is-write .ensures) _ (c .begin .ensures)
 
 pub carry-out-spec : {M : Type 1} → statement M
 carry-out-spec =
@@ -82,22 +68,18 @@ carry-out-spec =
     enum-told
     enum-known-answer
     enum-told-2
-    enum-told-3
-    block-in-requires
-    write-requires
     enum-known-c
     start-requires
     with-run-requires
-    enum-told-4
+    enum-told-3
     stop-requires
     with-run-requires-2
-    enum-told-5
-    ping-requires
-    enum-told-6
+    enum-told-4
+    is-write-requires
+    begin-requires
     returns
     returns-2
     returns-3
     returns-4
     returns-5
-    returns-6
-    returns-7)
+    returns-6)
