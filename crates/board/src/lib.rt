@@ -215,19 +215,9 @@ impl Board {
     fn with_run(self, run: Run) -> Board
         ensures { λ r. ⌜ r ≡ withRun self run ⌝ }
     {
-        let identity = self.identity;
-        let block = self.block;
-        let kind = self.kind;
-        let active = self.active;
-        let crates = self.crates;
-        Board {
-            identity,
-            run,
-            block,
-            kind,
-            active,
-            crates,
-        }
+        let mut next = self;
+        next.run = run;
+        next
     }
 
     // A pass begins: a write stores the block and sets fresh, a ping keeps the active words as they stand.
@@ -313,19 +303,9 @@ impl Board {
     fn with_crates(self, crates: [Crate; 4]) -> Board
         ensures { λ r. ⌜ r ≡ withCrates self crates ⌝ }
     {
-        let identity = self.identity;
-        let run = self.run;
-        let block = self.block;
-        let kind = self.kind;
-        let active = self.active;
-        Board {
-            identity,
-            run,
-            block,
-            kind,
-            active,
-            crates,
-        }
+        let mut next = self;
+        next.crates = crates;
+        next
     }
 
     // What every reply and time-up does: a refusal, or a step of its crate.
