@@ -49,20 +49,18 @@ answers-as β o p a e h =
 
 -- ---- an order in another form
 
-module _ (β : Board) where
-  pub unserved : (t : Bool) (o : Order) → t ≡ false → Answers β (taking t o) (answered Question β)
-  unfolding replyTo boardAfterOrder
-  unserved t o e = answers-as β otherForm (taking t o) _ (sym (ap (λ (u : Bool). taking u o) e)) (record { said = λ bytes words. refl; board = refl })
+module _ (β : Board) (a : Answered) (h : Answers β otherForm a) where
+  pub unserved : (t : Bool) (o : Order) → t ≡ false → Answers β (taking t o) a
+  unserved t o e = answers-as β otherForm (taking t o) a (sym (ap (λ (u : Bool). taking u o) e)) h
 
-  pub no-reply : (b : List ℕ) → length b ≡ 0 → Answers β (replyFrom b) (answered Question β)
-  unfolding replyTo boardAfterOrder
-  no-reply [] e = record { said = λ bytes words. refl; board = refl }
+  pub no-reply : (b : List ℕ) → length b ≡ 0 → Answers β (replyFrom b) a
+  no-reply [] e = h
   no-reply (x ∷ b) e = absurd (let k : ⊥ = omega arith in k)
 
-  pub no-trigger : (b out : List ℕ) (t : Bool) → t ≡ areFields b → t ≡ false → AnswersInBytes β (triggerOrder b) (answered Question β) out
+  pub no-trigger : (b out : List ℕ) (t : Bool) → t ≡ areFields b → t ≡ false → AnswersInBytes β (triggerOrder b) a out
   no-trigger b out t q e =
-      let h = unserved (areFields b) (trigger (fieldsFrom b)) (sym q ∙ e) in
-      record { said = λ words. h .said out words; board = h .board }
+      let g = unserved (areFields b) (trigger (fieldsFrom b)) (sym q ∙ e) in
+      record { said = λ words. g .said out words; board = g .board }
 
 -- ---- P
 

@@ -8,7 +8,7 @@ ghost use Rattle.acceptance.specs.Acceptance.{answerOnPaper};
 ghost use Rattle.crate_pass.specs.Crate.{replyOnPaper};
 ghost use Rattle.script.specs.Script.{malformed, orderIn, lineIn};
 ghost use Rattle.texts.specs.Texts.{saidOnPaper};
-ghost use Rattle.exchange.specs.Orders.{areFlags, areFields, fieldsFrom, oneByte, noByte, anyWords, powerUpOrder, clockOrder, triggerOrder, replyFrom, askedBy, command, timeUp, outstanding, framesSent, static, ftuList, failure, dynamic, orderOf};
+ghost use Rattle.exchange.specs.Orders.{areFlags, areFields, fieldsFrom, oneByte, noByte, anyWords, powerUpOrder, clockOrder, triggerOrder, replyFrom, askedBy, command, timeUp, outstanding, framesSent, static, ftuList, failure, dynamic, otherForm, orderOf};
 ghost use Rattle.exchange.specs.Exchange.{Says, SaysInBytes, SaysInWords, SaysWrittenBytes, SaysWrittenWords, refusalReply, commandReply, outcomeReply, replyTo, Answers, AnswersInBytes, AnswersBoth, ServesLine};
 use acceptance::CommandAnswer;
 use board::Board;
@@ -94,15 +94,22 @@ fn words_said(written: Written) -> Said
 
 // ---- orders that may change the board
 
+// A line in another form: `?`, and the board that stood there.
+fn other_form(board: Board) -> Answered
+    ensures { λ r. ⌜ Answers board otherForm r ⌝ }
+{
+    Answered {
+        said: Said::Question,
+        board,
+    }
+}
+
 // P: the board ID in four words, the firmware ID in one.
 fn power_up_order(board: Board, bytes: &[u8]) -> Answered
     ensures { λ r. ⌜ Answers board (powerUpOrder (now (bytes .entry))) r ⌝ }
 {
     if bytes.len() != 10 {
-        return Answered {
-            said: Said::Question,
-            board,
-        };
+        return other_form(board);
     }
     let mut w = [0u16; 5];
     words_from_bytes(bytes, &mut w);
@@ -127,10 +134,7 @@ fn command_order(board: Board, bytes: &[u8]) -> Answered
     ensures { λ r. ⌜ Answers board (anyWords command (now (bytes .entry))) r ⌝ }
 {
     if bytes.len() % 2 != 0 {
-        return Answered {
-            said: Said::Question,
-            board,
-        };
+        return other_form(board);
     }
     let mut words = [0u16; 1024];
     words_from_bytes(bytes, &mut words);
@@ -149,10 +153,7 @@ fn clock_order(board: Board, bytes: &[u8]) -> Answered
     ensures { λ r. ⌜ Answers board (clockOrder (now (bytes .entry))) r ⌝ }
 {
     if bytes.len() != 4 {
-        return Answered {
-            said: Said::Question,
-            board,
-        };
+        return other_form(board);
     }
     let mut w = [0u16; 2];
     words_from_bytes(bytes, &mut w);
@@ -218,10 +219,7 @@ fn trigger_order(board: Board, bytes: &[u8], out: &mut [u8; 28]) -> Answered
             board: next,
         };
     }
-    Answered {
-        said: Said::Question,
-        board,
-    }
+    other_form(board)
 }
 
 // R: a reply on a crate.
@@ -229,10 +227,7 @@ fn reply_order(board: Board, bytes: &[u8]) -> Answered
     ensures { λ r. ⌜ Answers board (replyFrom (now (bytes .entry))) r ⌝ }
 {
     if bytes.len() == 0 {
-        return Answered {
-            said: Said::Question,
-            board,
-        };
+        return other_form(board);
     }
     let replied = board.reply(bytes[0], &bytes[1..]);
     let answer = replied.answer;
@@ -248,10 +243,7 @@ fn time_up_order(board: Board, bytes: &[u8]) -> Answered
     ensures { λ r. ⌜ Answers board (oneByte timeUp (now (bytes .entry))) r ⌝ }
 {
     if bytes.len() != 1 {
-        return Answered {
-            said: Said::Question,
-            board,
-        };
+        return other_form(board);
     }
     let replied = board.time_up(bytes[0]);
     let answer = replied.answer;

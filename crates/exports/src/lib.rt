@@ -3,7 +3,6 @@ ghost use mathlib.Core.Path.{_≡_};
 ghost use Prim.Native.Nat.{_≤_};
 ghost use Rattle.crc.specs.Crc.{crc};
 ghost use Rattle.packets.specs.Packets.{packetAnswer};
-ghost use Rattle.steps.specs.Steps.{stepFrame, heardIn};
 ghost use Rattle.crate_pass.specs.Crate.{replyOnPaper};
 ghost use Rattle.exports.specs.Exports.{commandGiven, goodOutcome, CountsGood, passOf, afterTwo, GivesTriggers, goodPacket, goodPackets, StaticRound};
 use block_reader::BlockRead;

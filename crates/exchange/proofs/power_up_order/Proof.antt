@@ -7,8 +7,11 @@ use borrow.Author.Needs.{needs}
 use Rattle.exchange.proofs.power_up_order.Statement.{statement}
 use Rattle.exchange.proofs.power_up_order.Tie as tie
 
+other-form-requires : tie.Need-other-form-requires
+other-form-requires c κs = search needs
+
 returns : tie.Need-returns
-returns c = unserved _ _ _ (ne-eqb _ _ (c .if1 .taken))
+returns c = unserved _ _ (c .other-form .ensures) _ _ (ne-eqb _ _ (c .before .if1 .taken))
 
 slice-aggregate-words-from-bytes : tie.Need-slice-aggregate-words-from-bytes
 slice-aggregate-words-from-bytes c = search needs
@@ -56,6 +59,7 @@ pub power-up-order-spec : {M : Type 1} → statement M
 power-up-order-spec =
     tie.close
     (tie.spec
+    other-form-requires
     returns
     slice-aggregate-words-from-bytes
     words-from-bytes-requires

@@ -6,8 +6,11 @@ use borrow.Author.Needs.{needs}
 use Rattle.exchange.proofs.reply_order.Statement.{statement}
 use Rattle.exchange.proofs.reply_order.Tie as tie
 
+other-form-requires : tie.Need-other-form-requires
+other-form-requires c κs = search needs
+
 returns : tie.Need-returns
-returns c = let a = c .before .before .args in no-reply (a .board) (now (a .bytes)) (c .if1 .taken)
+returns c = let a = c .before .before .before .args in no-reply (a .board) _ (c .other-form .ensures) (now (a .bytes)) (c .before .if1 .taken)
 
 shared-slice-read-reply : tie.Need-shared-slice-read-reply
 shared-slice-read-reply c = search needs
@@ -34,6 +37,7 @@ pub reply-order-spec : {M : Type 1} → statement M
 reply-order-spec =
     tie.close
     (tie.spec
+    other-form-requires
     returns
     shared-slice-read-reply
     sub-reply

@@ -6,8 +6,11 @@ use borrow.Author.Needs.{needs}
 use Rattle.exchange.proofs.time_up_order.Statement.{statement}
 use Rattle.exchange.proofs.time_up_order.Tie as tie
 
+other-form-requires : tie.Need-other-form-requires
+other-form-requires c κs = search needs
+
 returns : tie.Need-returns
-returns c = unserved _ _ _ (ne-eqb _ _ (c .if1 .taken))
+returns c = unserved _ _ (c .other-form .ensures) _ _ (ne-eqb _ _ (c .before .if1 .taken))
 
 shared-slice-read-time-up : tie.Need-shared-slice-read-time-up
 shared-slice-read-time-up c = search needs
@@ -24,4 +27,4 @@ returns-2 c = let a = c .before .before .before .before .before .before .args in
 pub time-up-order-spec : {M : Type 1} → statement M
 time-up-order-spec =
     tie.close
-    (tie.spec returns shared-slice-read-time-up time-up-requires outcome-said-requires returns-2)
+    (tie.spec other-form-requires returns shared-slice-read-time-up time-up-requires outcome-said-requires returns-2)

@@ -21,8 +21,11 @@ bytes-said-requires c κs = search needs
 returns : tie.Need-returns
 returns c = let a = c .before .before .before .before .before .before .before .before .args in triggered (a .board) (now (a .bytes)) _ _ (c .bytes-said .result) (c .before .before .before .before .before .before .are-fields .result) (c .before .before .before .before .fields-from .result) (c .before .before .trigger .result) (c .before .before .before .before .before .before .are-fields .ensures) (c .before .before .before .before .before .if1 .taken) (c .before .before .before .before .fields-from .ensures) (search needs) (c .before .before .trigger .ensures) (c .bytes-said .ensures)
 
+other-form-requires : tie.Need-other-form-requires
+other-form-requires c κs = search needs
+
 returns-2 : tie.Need-returns-2
-returns-2 c = let a = c .before .before .before .args in no-trigger (a .board) (now (a .bytes)) _ (c .before .are-fields .result) (c .before .are-fields .ensures) (c .if1 .left)
+returns-2 c = let a = c .before .before .before .before .args in no-trigger (a .board) _ (c .other-form .ensures) (now (a .bytes)) _ (c .before .before .are-fields .result) (c .before .before .are-fields .ensures) (c .before .if1 .left)
 
 pub trigger-order-spec : {M : Type 1} → statement M
 trigger-order-spec =
@@ -33,4 +36,5 @@ trigger-order-spec =
     trigger-requires
     bytes-said-requires
     returns
+    other-form-requires
     returns-2)
