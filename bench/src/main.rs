@@ -2,6 +2,7 @@
 
 mod exports;
 
+use std::fmt::Debug;
 use std::hint::black_box;
 use std::time::Instant;
 
@@ -21,18 +22,29 @@ mod plain {
         commands::read(words).map_or_else(|refusal| refusal.number(), |_| 0)
     }
 
-    /// A fresh board that obeys the first commands of the words.
-    fn board_after(words: &[u16], count: usize) -> Board {
+    /// A fresh board that obeys commands of the words one after another, and how many it accepts.
+    fn obeyed(words: &[u16], count: u64) -> (Board, u64) {
         let mut board = Board::power_up(0, 0).expect("0 is below 2^57");
         let mut at = 0;
+        let mut accepted = 0;
         for _ in 0..count {
-            at += board.obey(&words[at..]).map_or(0, |(_, used)| used);
+            match board.obey(&words[at..]) {
+                Ok((_, used)) => {
+                    at += used;
+                    accepted += 1;
+                }
+                Err(refused) => at += refused.used,
+            }
         }
-        board
+        (board, accepted)
+    }
+
+    pub fn commands(words: &[u16], count: u64) -> u64 {
+        obeyed(words, count).1
     }
 
     pub fn pass(words: &[u16], items: &[u8]) -> u64 {
-        let mut board = board_after(words, 1);
+        let (mut board, _) = obeyed(words, 1);
         let mut good = 0;
         for item in items.chunks_exact(ITEM) {
             if board.reply(item[0], &item[1..]).is_ok_and(|answer| answer.outcome == Outcome::Good)
@@ -43,8 +55,21 @@ mod plain {
         good
     }
 
+    pub fn time_ups(words: &[u16], crates: &[u8]) -> u64 {
+        let (mut board, _) = obeyed(words, 1);
+        crates.iter().filter(|&&crate_number| board.time_up(crate_number).is_ok()).count() as u64
+    }
+
+    pub fn clock_steps(words: &[u16], ticks: &[u32]) -> u64 {
+        let (mut board, _) = obeyed(words, 2);
+        for &step in ticks {
+            board.clock(step);
+        }
+        board.header().timestamp
+    }
+
     pub fn triggers(words: &[u16], out: &mut [u8]) -> u64 {
-        let mut board = board_after(words, 2);
+        let (mut board, _) = obeyed(words, 2);
         let trigger = Trigger { n: 4, ..Trigger::default() };
         let mut given = 0;
         for packet in out.chunks_exact_mut(packets::BYTES) {
@@ -72,25 +97,36 @@ mod plain {
     }
 }
 
-/// Nanoseconds of a call: the best of many short series, the two by turns.
-fn times(count: u32, mut proved: impl FnMut(), mut plain: impl FnMut()) -> (f64, f64) {
-    let series = |work: &mut dyn FnMut()| {
+/// Nanoseconds of a call of each: the best of many short series, the two by turns. Both give the same.
+fn times<T: PartialEq + Debug>(
+    count: u32,
+    mut proved: impl FnMut() -> T,
+    mut plain: impl FnMut() -> T,
+) -> [f64; 2] {
+    fn series<T>(count: u32, work: &mut impl FnMut() -> T) -> f64 {
         let start = Instant::now();
         for _ in 0..count {
-            work();
+            black_box(work());
         }
         start.elapsed().as_secs_f64() * 1e9 / f64::from(count)
-    };
-    let mut best = (f64::MAX, f64::MAX);
+    }
+    assert_eq!(proved(), plain());
+    let mut best = [f64::MAX; 2];
     for _ in 0..200 {
-        best.0 = best.0.min(series(&mut proved));
-        best.1 = best.1.min(series(&mut plain));
+        best[0] = best[0].min(series(count, &mut proved));
+        best[1] = best[1].min(series(count, &mut plain));
     }
     best
 }
 
-fn row(what: &str, (proved, plain): (f64, f64)) {
-    println!("| {what} | {proved:.0} | {plain:.0} | {:.2} |", proved / plain);
+fn row(what: &str, [proved, plain]: [f64; 2]) {
+    let shown = |time: f64| if time < 9.95 { format!("{time:.1}") } else { format!("{time:.0}") };
+    println!("| {what} | {} | {} | {:.2} |", shown(proved), shown(plain), proved / plain);
+}
+
+/// A row for one of the calls of a series: its time without what comes before the calls.
+fn single(what: &str, calls: usize, whole: [f64; 2], before: [f64; 2]) {
+    row(what, [0, 1].map(|side| (whole[side] - before[side]) / calls as f64));
 }
 
 /// The good replies of a whole pass, the crates by turns.
@@ -127,99 +163,106 @@ fn write_command() -> Vec<u16> {
     words
 }
 
-fn main() {
-    let write = write_command();
-    let read = [0x0040, 0x0001, 0x0001, 0, 0];
-    let ping = [0x0040, 0x0010, 0x0000, 0, 0];
-    // No board active, so that a start is accepted at once.
-    let mut run = vec![0; 441];
-    run[..3].copy_from_slice(&[0x0040, 0x0002, 0x0001]);
-    run.extend([0x0040, 0x0004, 0x0001, 0, 0]);
+const READ: [u16; 5] = [0x0040, 0x0001, 0x0001, 0, 0];
+const PING: [u16; 5] = [0x0040, 0x0010, 0x0000, 0, 0];
+
+/// A write with no board active, so that the start after it is accepted at once.
+fn run_commands() -> Vec<u16> {
+    let mut words = vec![0; 441];
+    words[..3].copy_from_slice(&[0x0040, 0x0002, 0x0001]);
+    words.extend([0x0040, 0x0004, 0x0001, 0, 0]);
+    words
+}
+
+fn formats(write: &[u16]) {
     let bytes: Vec<u8> =
         (0..65536u32).map(|i| (i.wrapping_mul(2_654_435_761) >> 24) as u8).collect();
-    let writes = good_items(&write);
-    let pings = good_items(&ping);
-    let mut sent = vec![0; 7000];
-    let mut block = vec![0; 447];
-
-    println!("| on the same input | proved, ns | Rust, ns | ratio |\n|---|---|---|---|");
     for (what, bytes, count) in
         [("CRC of 28 bytes", &bytes[..28], 20000), ("CRC of 64 KiB", &bytes[..], 10)]
     {
-        assert_eq!(exports::crc(bytes), crc8(bytes));
-        row(
-            what,
-            times(
-                count,
-                || _ = black_box(exports::crc(black_box(bytes))),
-                || _ = black_box(crc8(black_box(bytes))),
-            ),
-        );
+        row(what, times(count, || exports::crc(black_box(bytes)), || crc8(black_box(bytes))));
     }
-    for (what, words) in
-        [("read a command, a read", &read[..]), ("read a command, a write", &write)]
+    for (what, words) in [("read a command, a read", &READ[..]), ("read a command, a write", write)]
     {
-        assert_eq!((exports::read_command(words), plain::read_command(words)), (0, 0));
-        row(
-            what,
-            times(
-                2000,
-                || _ = black_box(exports::read_command(black_box(words))),
-                || _ = black_box(plain::read_command(black_box(words))),
-            ),
-        );
+        let proved = || exports::read_command(black_box(words));
+        row(what, times(2000, proved, || plain::read_command(black_box(words))));
     }
-    for (what, words, items, good, count) in [
-        ("an accepted write, from power-up", &write[..], &[][..], 0, 1000),
-        ("a whole ping, 40 good replies", &ping[..], &pings[..], 40, 100),
-        ("a whole reprogramming, 120 good replies", &write[..], &writes[..], 120, 100),
-    ] {
-        assert_eq!((exports::pass(words, items), plain::pass(words, items)), (good, good));
-        row(
-            what,
-            times(
-                count,
-                || _ = black_box(exports::pass(black_box(words), black_box(items))),
-                || _ = black_box(plain::pass(black_box(words), black_box(items))),
-            ),
-        );
-    }
-    let mut again = sent.clone();
-    assert_eq!(
-        (exports::triggers(&run, &mut sent), plain::triggers(&run, &mut again)),
-        (1000, 1000)
-    );
-    assert_eq!(sent, again);
-    row(
-        "1,000 triggers, from power-up",
-        times(
-            20,
-            || _ = black_box(exports::triggers(black_box(&run), black_box(&mut sent))),
-            || _ = black_box(plain::triggers(black_box(&run), black_box(&mut again))),
-        ),
-    );
-    assert_eq!((exports::packets(&sent), plain::packets(&sent)), (1000, 1000));
-    row(
-        "1,000 packets read",
-        times(
-            20,
-            || _ = black_box(exports::packets(black_box(&sent))),
-            || _ = black_box(plain::packets(black_box(&sent))),
-        ),
-    );
-    let mut other = block.clone();
-    let stored = &write[5..];
-    assert_eq!(
-        (exports::static_block(stored, &mut block), plain::static_block(stored, &mut other)),
-        (0, 0)
-    );
+    let (mut sent, stored) = (vec![0; 7000], &write[5..]);
+    exports::triggers(&run_commands(), &mut sent);
+    let proved = || exports::packets(black_box(&sent));
+    row("1,000 packets read", times(20, proved, || plain::packets(black_box(&sent))));
+    let (mut block, mut other) = (vec![0; 447], vec![0; 447]);
+    let proved = || exports::static_block(black_box(stored), black_box(&mut block));
+    let reference = || plain::static_block(black_box(stored), black_box(&mut other));
+    row("a static block, written and read back", times(2000, proved, reference));
     assert_eq!(block, other);
-    row(
-        "a static block, written and read back",
-        times(
-            2000,
-            || _ = black_box(exports::static_block(black_box(stored), black_box(&mut block))),
-            || _ = black_box(plain::static_block(black_box(stored), black_box(&mut other))),
-        ),
+}
+
+fn series(write: &[u16], writes: &[u8], pings: &[u8]) {
+    for (what, words, items, count) in [
+        ("an accepted write, from power-up", write, &[][..], 1000),
+        ("a whole ping, 40 good replies", &PING, pings, 100),
+        ("a whole reprogramming, 120 good replies", write, writes, 100),
+    ] {
+        let proved = || exports::pass(black_box(words), black_box(items));
+        row(what, times(count, proved, || plain::pass(black_box(words), black_box(items))));
+    }
+    let run = run_commands();
+    let (mut sent, mut again) = (vec![0; 7000], vec![0; 7000]);
+    let proved = || exports::triggers(black_box(&run), black_box(&mut sent));
+    let reference = || plain::triggers(black_box(&run), black_box(&mut again));
+    row("1,000 triggers, from power-up", times(20, proved, reference));
+    assert_eq!(sent, again);
+}
+
+fn single_calls(write: &[u16], writes: &[u8], pings: &[u8]) {
+    for (what, words, items) in
+        [("a good reply", write, writes), ("a good reply to a ping", &PING, pings)]
+    {
+        let [whole, before] = [items, &[]].map(|items| {
+            let proved = || exports::replies(black_box(words), black_box(items));
+            times(50, proved, || plain::pass(black_box(words), black_box(items)))
+        });
+        single(what, items.len() / ITEM, whole, before);
+    }
+    let turns: Vec<u8> = (0..120).map(|i| i % 4).collect();
+    let [whole, before] = [&turns[..], &[]].map(|crates| {
+        let proved = || exports::time_ups(black_box(write), black_box(crates));
+        times(50, proved, || plain::time_ups(black_box(write), black_box(crates)))
+    });
+    single("a time-up", turns.len(), whole, before);
+    let run = run_commands();
+    let ticks: Vec<u32> = (0..1000).collect();
+    let [whole, before] = [&ticks[..], &[]].map(|ticks| {
+        let proved = || exports::clock_steps(black_box(&run), black_box(ticks));
+        times(50, proved, || plain::clock_steps(black_box(&run), black_box(ticks)))
+    });
+    single("a clock step", ticks.len(), whole, before);
+    let [whole, before] = [1000, 0].map(|count| {
+        let (mut sent, mut again) = (vec![0; 7 * count], vec![0; 7 * count]);
+        let proved = || exports::triggers(black_box(&run), black_box(&mut sent));
+        times(20, proved, || plain::triggers(black_box(&run), black_box(&mut again)))
+    });
+    single("a trigger", 1000, whole, before);
+    for (what, words, calls) in
+        [("the obeying of a read", &READ.repeat(100)[..], 100), ("an accepted write", write, 1)]
+    {
+        let [whole, before] = [calls, 0].map(|count| {
+            let proved = || exports::commands(black_box(words), black_box(count));
+            times(200, proved, || plain::commands(black_box(words), black_box(count)))
+        });
+        single(what, calls as usize, whole, before);
+    }
+}
+
+fn main() {
+    let write = write_command();
+    let (writes, pings) = (good_items(&write), good_items(&PING));
+    println!("| on the same input | proved, ns | Rust, ns | ratio |\n|---|---|---|---|");
+    formats(&write);
+    series(&write, &writes, &pings);
+    println!(
+        "\n| one call on the whole board | proved, ns | Rust, ns | ratio |\n|---|---|---|---|"
     );
+    single_calls(&write, &writes, &pings);
 }

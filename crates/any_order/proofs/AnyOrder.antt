@@ -11,7 +11,8 @@ use Rattle.commands.specs.declared.Command.{Command}
 use Rattle.commands.specs.declared.Command.the-variants.{Ping}
 use Rattle.ftu_list.specs.List.{answered, listBody}
 use Rattle.run.specs.Run.{isRunning}
-use Rattle.crate_pass.specs.Crate.{isDone, keptEntries}
+use Rattle.crate_pass.specs.Crate.{entriesIn, isDone, begunCrate}
+use Rattle.crate_pass.proofs.Entries.{entries-cleared}
 use Rattle.crate_pass.specs.declared.PassKind.{PassKind}
 use Rattle.crate_pass.specs.declared.Crate.{Crate}
 use Rattle.four_crates.specs.FourCrates.{noCrate, inPass}
@@ -22,10 +23,10 @@ use Rattle.board.specs.declared.Board.{Board}
 use Rattle.cells.specs.Order.{only, from, ordered}
 use Rattle.cells.proofs.Cells.{turned, in-order-out, in-order-end, out-from}
 use Rattle.any_order.specs.Steps.{Event, Out, refusal, opened}
-use Rattle.any_order.specs.AnyOrder.{Item, Entry, crateOf, crateOfEntry, trace, final, lineOf, openedOn, endOn, doneOn, answeredOn, refusedAll, AnyOrder, beginsPass}
+use Rattle.any_order.specs.AnyOrder.{Item, Entry, crateOf, crateOfEntry, trace, final, wordOf, lineOf, openedOn, endOn, doneOn, answeredOn, refusedAll, AnyOrder, beginsPass}
 use Rattle.any_order.proofs.Served.{crateStep, endCells, outCells}
 use Rattle.any_order.proofs.Begun.{Begun, begun-after}
-use Rattle.any_order.proofs.OneCrate.{final-is, trace-is, entries-begun, done-is, list-is, alone}
+use Rattle.any_order.proofs.OneCrate.{final-is, trace-is, done-is, list-is, alone}
 use Rattle.any_order.proofs.Counts.{length-end, counts-of}
 
 -- ---- the claim, of any state in which a pass has just begun
@@ -90,15 +91,17 @@ module _ (start : Board) (b : Begun start) (xs : List Item) where
   idle-is = ap₂ (λ r p. not r && p) still-is outstanding-is
 
   -- in a ping each crate has ten entries, and the list counts those that answered
-  entries-opened : (c : ℕ) → openedOn start c .entries ≡ crateAt start c .entries
+  entries-opened : (c : ℕ) → openedOn start c .entries ≡ entriesIn (crateAt start c)
   unfolding opened
   entries-opened c = refl
 
   ten-entries : start .kind ≡ PassKind.Ping → (c : ℕ) → c < 4 → length (endOn start c xs .entries) ≡ 10
   ten-entries p c h =
       length-end (lineOf start c) (openedOn start c) (only crateOf c xs)
-      ∙ ap length (entries-opened c ∙ entries-begun start b c h)
-      ∙ ap (λ kind. length (keptEntries kind (b .before c .entries))) p
+      ∙ ap length (entries-opened c)
+      ∙ ap (λ (k : Crate). length (entriesIn k)) (b .begun c h)
+      ∙ ap (λ kind. length (entriesIn (begunCrate kind (wordOf start c) (b .before c)))) p
+      ∙ ap length (entries-cleared (wordOf start c) (b .before c))
 
   counts-are : start .kind ≡ PassKind.Ping
       → take 5 (listBody (listOf (final start xs)))

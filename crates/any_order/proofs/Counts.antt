@@ -11,13 +11,13 @@ use lib.Seq.{drop-cons}
 use Rattle.ftu_list.specs.List.{answered, listHead, listBody}
 use Rattle.ftu_list.specs.declared.Entry.{Entry}
 use Rattle.steps.specs.declared.Heard.{Heard}
-use Rattle.crate_pass.specs.Crate.{silent, entryOf, entriesWith}
+use Rattle.crate_pass.specs.Crate.{silent, entriesIn}
 use Rattle.crate_pass.specs.declared.Crate.{Crate}
 use Rattle.four_crates.specs.FourCrates.{crateOf, entriesFrom, entriesOf}
 use Rattle.board.specs.State.{crateAt}
 use Rattle.board.specs.SentOut.{listOf}
 use Rattle.board.specs.declared.Board.{Board}
-use Rattle.any_order.specs.Steps.{Step, Event, heard, Pass, movedOn, sentAgain, reactTo, react}
+use Rattle.any_order.specs.Steps.{Step, Event, heard, Pass, entryOf, entriesWith, movedOn, sentAgain, reactTo, react}
 use Rattle.any_order.specs.AnyOrder.{Item, passEnd}
 use Rattle.any_order.proofs.Bound.{byTests}
 
@@ -48,16 +48,16 @@ length-end line p (x ∷ xs) = length-end line (react line (x .1) p .1) xs ∙ l
 
 -- ---- the entries of the list are those of crate 0, then those of 1, 2 and 3
 
-crate-entries : (cs : List Crate) (c n j : ℕ) → j + n ≡ 10 → length (crateOf cs c .entries) ≡ 10 → entriesFrom cs n (10 * c + j) ≡ drop j (crateOf cs c .entries)
-crate-entries cs c zero j h l = sym (drop-of-length-le (crateOf cs c .entries) {i = j} (omega arith))
+crate-entries : (cs : List Crate) (c n j : ℕ) → j + n ≡ 10 → length (entriesIn (crateOf cs c)) ≡ 10 → entriesFrom cs n (10 * c + j) ≡ drop j (entriesIn (crateOf cs c))
+crate-entries cs c zero j h l = sym (drop-of-length-le (entriesIn (crateOf cs c)) {i = j} (omega arith))
 crate-entries cs c (suc n) j h l =
     let crate : (10 * c + j) / 10 ≡ c = omega arith in
     let board : (10 * c + j) % 10 ≡ j = omega arith in
     let next : suc (10 * c + j) ≡ 10 * c + suc j = omega arith in
-    ap₂ (λ (i : ℕ) (b : ℕ). getD (crateOf cs i .entries) b silent ∷ entriesFrom cs n (suc (10 * c + j))) crate board
-    ∙ ap (λ (k : ℕ). getD (crateOf cs c .entries) j silent ∷ entriesFrom cs n k) next
-    ∙ ap (λ (es : List Entry). getD (crateOf cs c .entries) j silent ∷ es) (crate-entries cs c n (suc j) (omega arith) l)
-    ∙ sym (drop-cons (crateOf cs c .entries) j silent (omega arith))
+    ap₂ (λ (i : ℕ) (b : ℕ). getD (entriesIn (crateOf cs i)) b silent ∷ entriesFrom cs n (suc (10 * c + j))) crate board
+    ∙ ap (λ (k : ℕ). getD (entriesIn (crateOf cs c)) j silent ∷ entriesFrom cs n k) next
+    ∙ ap (λ (es : List Entry). getD (entriesIn (crateOf cs c)) j silent ∷ es) (crate-entries cs c n (suc j) (omega arith) l)
+    ∙ sym (drop-cons (entriesIn (crateOf cs c)) j silent (omega arith))
 
 answered-append : (xs ys : List Entry) → answered (xs ++ ys) ≡ answered xs + answered ys
 answered-append [] ys = omega arith
@@ -65,12 +65,12 @@ answered-append (x ∷ xs) ys = let ih = answered-append xs ys in omega arith
 
 -- ---- the counts
 
-module _ (β : Board) (ten : (c : ℕ) → c < 4 → length (crateAt β c .entries) ≡ 10) where
+module _ (β : Board) (ten : (c : ℕ) → c < 4 → length (entriesIn (crateAt β c)) ≡ 10) where
   abbrev inList : ℕ → List Entry
   inList k = entriesFrom (β .crates) 10 k
 
   abbrev count : ℕ → ℕ
-  count c = answered (crateAt β c .entries)
+  count c = answered (entriesIn (crateAt β c))
 
   counts-listed : take 5 (listBody (listOf β))
       ≡ answered (inList 0 ++ (inList 10 ++ (inList 20 ++ inList 30)))

@@ -10,15 +10,17 @@ use lib.ListN.{length, set, replicate}
 use lib.Dec.{ltb, leb, eqb}
 use borrow.Author.Tests.{ltb-true, ltb-false, eq-eqb, ne-eqb, lt-ltb, le-ltb, le-leb, lt-leb}
 use Rattle.refusals.specs.Tables.{Answer, given}
+use Rattle.ftu_list.specs.declared.Entry.{Entry}
 use Rattle.steps.specs.declared.Heard.{Heard}
-use Rattle.crate_pass.specs.Crate.{serves, firstServed, nextBoard, firstCode, isDone, sentAt, keptEntries, begunCrate, countedFrame, placed, advanced, stepped, entriesWith, noted, marked, told, passed, missed, moved, crateAnswer, crateAfter}
+use Rattle.crate_pass.specs.Crate.{serves, firstServed, nextBoard, firstCode, entriesFrom, entriesIn, isDone, sentAt, begunCrate, callsAt, countedFrame}
+use Rattle.crate_pass.specs.Crate.{placed, advanced, stepped, notedIn, noted, marked, Moved, told, passed, missed, moved, crateAnswer, crateAfter}
+use Rattle.crate_pass.proofs.Entries.{entries-set}
 use Rattle.crate_pass.specs.declared.PassKind.{PassKind}
 use Rattle.crate_pass.specs.declared.PassKind.the-variants.{Reprogramming, Ping}
 use Rattle.crate_pass.specs.declared.Outcome.{Outcome}
 use Rattle.crate_pass.specs.declared.Outcome.the-variants.{Good, Again, BoardFailed}
 use Rattle.crate_pass.specs.declared.Crate.{Crate}
-use Rattle.crate_pass.specs.declared.Moved.{Moved}
-use Rattle.any_order.specs.Steps.{Step, step, boardSteps, stepsFrom, steps, Event, heard, Pass, Out, refusal, first, none, others, opened, movedOn, sentAgain, says, reactTo, react}
+use Rattle.any_order.specs.Steps.{Step, step, boardSteps, stepsFrom, steps, Event, heard, Pass, Out, refusal, first, none, others, entryOf, entriesWith, opened, movedOn, sentAgain, says, reactTo, react}
 use Rattle.any_order.specs.AnyOrder.{sentAfter, stepOf}
 
 -- ---- the steps that a place stands for
@@ -114,7 +116,7 @@ others-later four w b = others-from _ w _ b (b + 1) (omega arith)
 -- ---- the pass that a crate stands for
 
 unfoldable pub view : PassKind → ℕ → Crate → Pass
-view kind w k = record { todo = todoAt kind w (k .board) (k .code); tries = k .tries; sent = k .sent; failed = k .failed; entries = k .entries }
+view kind w k = record { todo = todoAt kind w (k .board) (k .code); tries = k .tries; sent = k .sent; failed = k .failed; entries = entriesIn k }
 
 data Place (b : ℕ) : Type 0 where
   at : b < 10 → Place b
@@ -156,10 +158,10 @@ one-or-none : (t : Bool) (s : Step) → cond t 1 0 ≡ length (cond t (s ∷ [])
 one-or-none true s = refl
 one-or-none false s = refl
 
-pub view-begun : (kind : PassKind) (w : ℕ) (k : Crate) → view kind w (begunCrate kind w k) ≡ opened (steps kind w) (keptEntries kind (k .entries))
+pub view-begun : (kind : PassKind) (w : ℕ) (k : Crate) → view kind w (begunCrate kind w k) ≡ opened (steps kind w) (entriesIn (begunCrate kind w k))
 unfolding view begunCrate opened sentAt
 view-begun kind w k =
-    ap₂ (λ (t : List Step) (n : ℕ). record { todo = t; tries = 0; sent = n; failed = replicate 10 0; entries = keptEntries kind (k .entries) })
+    ap₂ (λ (t : List Step) (n : ℕ). record { todo = t; tries = 0; sent = n; failed = replicate 10 0; entries = entriesIn (begunCrate kind w k) })
     (begun-todo kind w)
     (one-or-none (ltb (nextBoard kind w 0) 10) (step (nextBoard kind w 0) (firstCode kind))
     ∙ ap length (first-at kind w (nextBoard kind w 0) (firstCode kind) ∙ ap first (begun-todo kind w)))
@@ -179,7 +181,7 @@ counted-first kind w b code n r = go (place b)
     go (past h) = rw (le-ltb _ _ h, todo-done kind w b code h) (omega arith)
 
 module _ (kind : PassKind) (w : ℕ) where
-  view-placed : (k : Crate) (b code : ℕ) → k .sent < 65535 → view kind w (placed k b code 0) ≡ movedOn (view kind w k) (todoAt kind w b code) (k .failed) (k .entries)
+  view-placed : (k : Crate) (b code : ℕ) → k .sent < 65535 → view kind w (placed k b code 0) ≡ movedOn (view kind w k) (todoAt kind w b code) (k .failed) (entriesIn k)
   unfolding view placed movedOn
   view-placed k b code r = rw (counted-first kind w b code (k .sent) r)
 
@@ -188,11 +190,11 @@ module _ (kind : PassKind) (w : ℕ) where
   view-again k r = rw (counted-first kind w (k .board) (k .code) (k .sent) r)
 
   view-advanced : (k : Crate) → k .board < 10 → k .sent < 65535
-      → view kind w (advanced kind w k) ≡ movedOn (view kind w k) (stepsFrom kind w (10 - (k .board + 1)) (k .board + 1)) (k .failed) (k .entries)
+      → view kind w (advanced kind w k) ≡ movedOn (view kind w k) (stepsFrom kind w (10 - (k .board + 1)) (k .board + 1)) (k .failed) (entriesIn k)
   unfolding advanced
   view-advanced k h r =
       view-placed k (nextBoard kind w (k .board + 1)) (firstCode kind) r
-      ∙ ap (λ l. movedOn (view kind w k) l (k .failed) (k .entries)) (next-board-todo kind w (k .board) h)
+      ∙ ap (λ l. movedOn (view kind w k) l (k .failed) (entriesIn k)) (next-board-todo kind w (k .board) h)
 
   stepped-low : (k : Crate) → k .code < 3 → stepped kind w k ≡ placed k (k .board) (k .code + 1) 0
   unfolding stepped
@@ -204,19 +206,19 @@ module _ (kind : PassKind) (w : ℕ) where
 
   -- on to the next code of the same board, and to the next board
   view-low : (k : Crate) (code : ℕ) → k .code < 3 → k .code + 1 ≡ code → k .board < 10 → k .sent < 65535
-      → view kind w (stepped kind w k) ≡ movedOn (view kind w k) (step (k .board) code ∷ later kind w (k .board) code) (k .failed) (k .entries)
+      → view kind w (stepped kind w k) ≡ movedOn (view kind w k) (step (k .board) code ∷ later kind w (k .board) code) (k .failed) (entriesIn k)
   view-low k code l e h r =
       ap (view kind w) (stepped-low k l ∙ ap (λ c. placed k (k .board) c 0) e)
       ∙ view-placed k (k .board) code r
-      ∙ ap (λ t. movedOn (view kind w k) t (k .failed) (k .entries)) (todo-here kind w (k .board) code h)
+      ∙ ap (λ t. movedOn (view kind w k) t (k .failed) (entriesIn k)) (todo-here kind w (k .board) code h)
 
   view-high : (k : Crate) → 3 ≤ k .code → k .board < 10 → k .sent < 65535
-      → view kind w (stepped kind w k) ≡ movedOn (view kind w k) (stepsFrom kind w (10 - (k .board + 1)) (k .board + 1)) (k .failed) (k .entries)
+      → view kind w (stepped kind w k) ≡ movedOn (view kind w k) (stepsFrom kind w (10 - (k .board + 1)) (k .board + 1)) (k .failed) (entriesIn k)
   view-high k l h r = ap (view kind w) (stepped-high k l) ∙ view-advanced k h r
 
 -- the next step is the first of those after the outstanding one
 view-stepped : {kind : PassKind} {code : ℕ} → Code kind code → (w : ℕ) (k : Crate) → k .code ≡ code → k .board < 10 → k .sent < 65535
-    → view kind w (stepped kind w k) ≡ movedOn (view kind w k) (later kind w (k .board) code) (k .failed) (k .entries)
+    → view kind w (stepped kind w k) ≡ movedOn (view kind w k) (later kind w (k .board) code) (k .failed) (entriesIn k)
 view-stepped one w k e h r = view-low _ w k 2 (omega arith) (omega arith) h r
 view-stepped two w k e h r = view-low _ w k 3 (omega arith) (omega arith) h r
 view-stepped three w k e h r = view-high _ w k (omega arith) h r
@@ -224,15 +226,15 @@ view-stepped four w k e h r = view-high _ w k (omega arith) h r
 
 -- a failed board's other steps are dropped
 view-marked : (kind : PassKind) (w : ℕ) (k : Crate) → k .board < 10 → k .sent < 65535
-    → view kind w (advanced kind w (marked k)) ≡ movedOn (view kind w k) (stepsFrom kind w (10 - (k .board + 1)) (k .board + 1)) (set (k .failed) (k .board) (k .code)) (k .entries)
+    → view kind w (advanced kind w (marked k)) ≡ movedOn (view kind w k) (stepsFrom kind w (10 - (k .board + 1)) (k .board + 1)) (set (k .failed) (k .board) (k .code)) (entriesIn k)
 unfolding marked movedOn view
 view-marked kind w k h r = view-advanced kind w (marked k) h r
 
 view-failed : {kind : PassKind} {code : ℕ} → Code kind code → (w : ℕ) (k : Crate) → k .code ≡ code → k .board < 10 → k .sent < 65535
-    → view kind w (advanced kind w (marked k)) ≡ movedOn (view kind w k) (others (k .board) (later kind w (k .board) code)) (set (k .failed) (k .board) (k .code)) (k .entries)
+    → view kind w (advanced kind w (marked k)) ≡ movedOn (view kind w k) (others (k .board) (later kind w (k .board) code)) (set (k .failed) (k .board) (k .code)) (entriesIn k)
 view-failed {kind} {code} q w k e h r =
     view-marked kind w k h r
-    ∙ ap (λ l. movedOn (view kind w k) l (set (k .failed) (k .board) (k .code)) (k .entries)) (sym (others-later q w (k .board)))
+    ∙ ap (λ l. movedOn (view kind w k) l (set (k .failed) (k .board) (k .code)) (entriesIn k)) (sym (others-later q w (k .board)))
 
 -- ---- what the steps do with an event for the first of them
 
@@ -269,6 +271,20 @@ pub record Fit (kind : PassKind) (k : Crate) : Type 0 where
 abbrev pub outFor : (Step → List ℕ) → Answer Outcome → Crate → Out
 outFor line a k = record { answer = a; frames = sentAfter a (map line (stepOf k)) }
 
+-- three numbers noted of a board are an entry of the list
+abbrev notedEntries : Crate → Heard → List Entry
+notedEntries k h = entriesWith (k .board) (k .code) (k .tries) h (entriesIn k)
+
+entries-noted : (k : Crate) (h : Heard) → entriesIn (noted k h) ≡ notedEntries k h
+unfolding noted notedIn entriesWith
+entries-noted k h = go (eqb (k .code) 4)
+  where
+    go : (t : Bool) → entriesFrom (cond t (set (k .dna) (k .board) (h .dna)) (k .dna)) (cond t (set (k .calls) (k .board) (callsAt (k .tries))) (k .calls))
+        (cond t (set (k .«crc_errors») (k .board) (h .«crc_errors»)) (k .«crc_errors»))
+        ≡ cond t (set (entriesIn k) (k .board) (entryOf (k .tries) h)) (entriesIn k)
+    go true = entries-set (k .dna) (k .calls) (k .«crc_errors») (k .board) (h .dna) (callsAt (k .tries)) (h .«crc_errors»)
+    go false = refl
+
 module _ (line : Step → List ℕ) (kind : PassKind) (w : ℕ) where
   -- what a crate gives that moved, and the pass that it then stands for
   abbrev gives : Moved → Out × Pass
@@ -279,13 +295,15 @@ module _ (line : Step → List ℕ) (kind : PassKind) (w : ℕ) where
 
   -- a note in the list leaves the place alone
   view-noted : (k : Crate) (h : Heard) → k .board < 10 → Fit kind k
-      → view kind w (stepped kind w (noted k h)) ≡ movedOn (view kind w k) (later kind w (k .board) (k .code)) (k .failed) (entriesWith (k .board) (k .code) (k .tries) h (k .entries))
+      → view kind w (stepped kind w (noted k h)) ≡ movedOn (view kind w k) (later kind w (k .board) (k .code)) (k .failed) (notedEntries k h)
   unfolding noted movedOn view
-  view-noted k h b fit = view-stepped (fit .code) w (noted k h) refl b (fit .room)
+  view-noted k h b fit =
+      view-stepped (fit .code) w (noted k h) refl b (fit .room)
+      ∙ ap (λ (es : List Entry). movedOn (view kind w k) (later kind w (k .board) (k .code)) (k .failed) es) (entries-noted k h)
 
   -- a good reply
   walks-passed : (k : Crate) (h : Heard) → k .board < 10 → Fit kind k
-      → gives (passed kind w k h) ≡ says line Good (movedOn (view kind w k) (later kind w (k .board) (k .code)) (k .failed) (entriesWith (k .board) (k .code) (k .tries) h (k .entries)))
+      → gives (passed kind w k h) ≡ says line Good (movedOn (view kind w k) (later kind w (k .board) (k .code)) (k .failed) (notedEntries k h))
   unfolding passed
   walks-passed k h b fit = gives-told Good (stepped kind w (noted k h)) ∙ ap (says line Good) (view-noted k h b fit)
 
@@ -297,7 +315,7 @@ module _ (line : Step → List ℕ) (kind : PassKind) (w : ℕ) where
       (gives-told Again (placed k (k .board) (k .code) (k .tries + 1)) ∙ ap (says line Again) (view-again kind w k (fit .room)))
 
   abbrev failedPass : Crate → Pass
-  failedPass k = movedOn (view kind w k) (others (k .board) (later kind w (k .board) (k .code))) (set (k .failed) (k .board) (k .code)) (k .entries)
+  failedPass k = movedOn (view kind w k) (others (k .board) (later kind w (k .board) (k .code))) (set (k .failed) (k .board) (k .code)) (entriesIn k)
 
   walks-failed : (k : Crate) → k .board < 10 → 2 ≤ k .tries → Fit kind k → gives (missed kind w k) ≡ says line BoardFailed (failedPass k)
   unfolding missed

@@ -9,7 +9,7 @@ use borrow.Author.Tests.{le-ltb}
 use Rattle.refusals.specs.Tables.{given}
 use Rattle.ftu_list.specs.declared.Entry.{Entry}
 use Rattle.steps.specs.Steps.{stepFrame}
-use Rattle.crate_pass.specs.Crate.{isDone, keptEntries, begunCrate}
+use Rattle.crate_pass.specs.Crate.{entriesIn, isDone}
 use Rattle.crate_pass.specs.declared.Crate.{Crate}
 use Rattle.four_crates.specs.FourCrates.{noCrate, sentOn}
 use Rattle.board.specs.State.{crateAt, withCrates}
@@ -44,21 +44,17 @@ module _ (start : Board) (b : Begun start) where
   trace-is ys = trace-cells start (start .crates) ys (b .four)
 
   -- ---- a crate as the pass begins
-  pub entries-begun : (c : ℕ) → c < 4 → crateAt start c .entries ≡ keptEntries (start .kind) (b .before c .entries)
-  unfolding begunCrate
-  entries-begun c h = ap (λ (k : Crate). k .entries) (b .begun c h)
-
   view-start : (c : ℕ) → c < 4 → view (start .kind) (wordOf start c) (crateAt start c) ≡ openedOn start c
   view-start c h =
       ap (view (start .kind) (wordOf start c)) (b .begun c h)
       ∙ view-begun (start .kind) (wordOf start c) (b .before c)
-      ∙ ap (opened (steps (start .kind) (wordOf start c))) (sym (entries-begun c h))
+      ∙ ap (λ (k : Crate). opened (steps (start .kind) (wordOf start c)) (entriesIn k)) (sym (b .begun c h))
 
   pub runs-start : (c : ℕ) → c < 4 → Runs (start .kind) (wordOf start c) (crateAt start c)
   runs-start c h =
       record {
         code = subst (λ (k : Crate). Code (start .kind) (k .code)) (sym (b .begun c h)) (code-begun (start .kind) (wordOf start c) (b .before c));
-        bound = subst (Bound (length (steps (start .kind) (wordOf start c)))) (sym (view-start c h)) (bound-opened (steps (start .kind) (wordOf start c)) (crateAt start c .entries));
+        bound = subst (Bound (length (steps (start .kind) (wordOf start c)))) (sym (view-start c h)) (bound-opened (steps (start .kind) (wordOf start c)) (entriesIn (crateAt start c)));
       }
 
   module _ (xs : List Item) (c : ℕ) (h : c < 4) where
@@ -114,7 +110,7 @@ module _ (start : Board) (b : Begun start) where
     unfolding view
     records-are = ap (λ (p : Pass). p .failed) view-is
 
-    pub list-is : at-end .entries ≡ pass-end .entries
+    pub list-is : entriesIn at-end ≡ pass-end .entries
     unfolding view
     list-is = ap (λ (p : Pass). p .entries) view-is
 
@@ -142,8 +138,8 @@ module _ (start : Board) (b : Begun start) where
           arith,
           length-append (map line (first (openedOn start c .todo))) (framesIn (passTrace line (openedOn start c) own)),
           length-map (first (openedOn start c .todo)) line,
-          ap (λ ss. length (first ss)) (opened-todo (steps (start .kind) (wordOf start c)) (crateAt start c .entries)),
-          opened-sent (steps (start .kind) (wordOf start c)) (crateAt start c .entries),
+          ap (λ ss. length (first ss)) (opened-todo (steps (start .kind) (wordOf start c)) (entriesIn (crateAt start c))),
+          opened-sent (steps (start .kind) (wordOf start c)) (entriesIn (crateAt start c)),
           sent-frames line (openedOn start c) own,
         )
 
@@ -157,15 +153,15 @@ module _ (start : Board) (b : Begun start) where
           arith,
           frames-number,
           sent-accepted line (openedOn start c) own,
-          ap (λ ss. length (first ss)) (opened-todo (steps (start .kind) (wordOf start c)) (crateAt start c .entries)),
-          opened-sent (steps (start .kind) (wordOf start c)) (crateAt start c .entries),
+          ap (λ ss. length (first ss)) (opened-todo (steps (start .kind) (wordOf start c)) (entriesIn (crateAt start c))),
+          opened-sent (steps (start .kind) (wordOf start c)) (entriesIn (crateAt start c)),
           ap acceptedIn entries-are,
           ap length outstanding-is,
           length-map (first (pass-end .todo)) line,
         )
 
     bounded-is : length (framesOn start c xs) ≤ mostFrames (start .kind) (wordOf start c)
-    bounded-is = omega (arith, frames-number, sent-bounded line (start .kind) (wordOf start c) (crateAt start c .entries) own)
+    bounded-is = omega (arith, frames-number, sent-bounded line (start .kind) (wordOf start c) (entriesIn (crateAt start c)) own)
 
     pub alone : Alone start c xs
     alone =

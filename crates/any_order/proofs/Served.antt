@@ -24,6 +24,7 @@ use Rattle.any_order.specs.Steps.{Step, steps, Event, heard, Pass, Out, 
 use Rattle.any_order.specs.AnyOrder.{Item, Entry, crateOf, afterItem, heardOn, outOf, fetched, sentAfter, trace, final, passTrace, passEnd, lineOf, wordOf, stepOf}
 use Rattle.cells.proofs.Order.{Side, low, high, side}
 use Rattle.cells.proofs.Cells.{one, end, out, endAlone, outAlone, one-high, one-low, one-length}
+use Rattle.board.proofs.Serving.{answer-high, board-high, answer-low, board-low}
 use Rattle.any_order.proofs.Cursor.{Fit, view, outFor, walks, code-kept, Code}
 use Rattle.any_order.proofs.Bound.{Bound, bound-kept, bound-sent, steps-most}
 use Rattle.any_order.proofs.Fetch.{fetched-step}
@@ -36,33 +37,6 @@ crateStep kind block c k e = (
       (crateAfter kind (activeWord block c) k (heard (stepFrame block c (k .board) (k .code)) e)),
   crateAfter kind (activeWord block c) k (heard (stepFrame block c (k .board) (k .code)) e),
 )
-
--- ---- one item on the board
-
-with-same : (β : Board) → withCrates β (β .crates) ≡ β
-unfolding withCrates
-with-same β = refl
-
-module _ (β : Board) (i : ℕ) (h : Heard) where
-  answer-high : 4 ≤ i → replyAnswer β i h ≡ refused 11 0
-  unfolding servedAnswer
-  answer-high l = let m : 3 < i = omega arith in rw (lt-ltb _ _ m)
-
-  pub board-high : 4 ≤ i → boardReplied β i h ≡ β
-  unfolding boardReplied
-  board-high l = ap (afterReply β i h) (answer-high l)
-
-  answer-low : i < 4 → replyAnswer β i h ≡ crateAnswer (β .kind) (wordOf β i) (crateAt β i) h
-  unfolding servedAnswer crateAnswer
-  answer-low l = let m : i ≤ 3 = omega arith in rw (le-ltb _ _ m)
-
-  pub board-low : i < 4 → boardReplied β i h ≡ withCrates β (set (β .crates) i (crateAfter (β .kind) (wordOf β i) (crateAt β i) h))
-  unfolding boardReplied crateAfter crateAnswer
-  board-low l = ap (afterReply β i h) (answer-low l) ∙ go (isDone (crateAt β i))
-    where
-      go : (t : Bool) → afterReply β i h (cond t (refused 12 0) (given (movedAt β i h .outcome))) ≡ withCrates β (set (β .crates) i (cond t (crateAt β i) (movedAt β i h .state)))
-      go true = sym (ap (withCrates β) (set-getD (β .crates) i noCrate) ∙ with-same β)
-      go false = refl
 
 -- ---- the board's crates are cells
 
@@ -104,8 +78,8 @@ module _ (β : Board) where
   out-low cs x h l =
       let u : Heard = heardOn (withCrates β cs) x in
       ap₂ (λ (a : Answer Outcome) (f : List (List ℕ)). record { answer = a; frames = sentAfter a f })
-      (answer-low (withCrates β cs) (x .0) u h)
-      (ap (λ b. fetched b (x .0)) (board-low (withCrates β cs) (x .0) u h) ∙ fetched-after cs (x .0) _ h l)
+      (answer-low (withCrates β cs) (x .0) u (omega arith))
+      (ap (λ b. fetched b (x .0)) (board-low (withCrates β cs) (x .0) u (omega arith)) ∙ fetched-after cs (x .0) _ h l)
 
   cell-out : (cs : List Crate) (x : Item) → length cs ≡ 4 → outOf (withCrates β cs) x ≡ oneCell cs x .0
   cell-out cs x n = go (side crateOf (length cs) x)

@@ -12,7 +12,7 @@ use Rattle.configuration.specs.Configuration.{activeWord}
 use Rattle.ftu_list.specs.List.{answered, listBody}
 use Rattle.steps.specs.Steps.{stepFrame}
 use Rattle.steps.specs.declared.Heard.{Heard}
-use Rattle.crate_pass.specs.Crate.{isDone}
+use Rattle.crate_pass.specs.Crate.{entriesIn, isDone}
 use Rattle.crate_pass.specs.declared.PassKind.{PassKind}
 use Rattle.crate_pass.specs.declared.PassKind.the-variants.{Reprogramming}
 use Rattle.crate_pass.specs.declared.Outcome.{Outcome}
@@ -94,7 +94,7 @@ abbrev pub lineOf : Board → ℕ → Step → List ℕ
 lineOf start c s = stepFrame (start .block) c (s .board) (s .code)
 
 abbrev pub openedOn : Board → ℕ → Pass
-openedOn start c = opened (steps (start .kind) (wordOf start c)) (crateAt start c .entries)
+openedOn start c = opened (steps (start .kind) (wordOf start c)) (entriesIn (crateAt start c))
 
 abbrev pub endOn : Board → ℕ → List Item → Pass
 endOn start c xs = passEnd (lineOf start c) (openedOn start c) (only crateOf c xs)
@@ -138,7 +138,7 @@ pub record Alone (start : Board) (c : ℕ) (xs : List Item) : Type 0 where
   pub done : isDone (crateAt (final start xs) c) ≡ none (endOn start c xs .todo)
   pub tries : crateAt (final start xs) c .tries ≡ endOn start c xs .tries
   pub records : crateAt (final start xs) c .failed ≡ endOn start c xs .failed
-  pub list : crateAt (final start xs) c .entries ≡ endOn start c xs .entries
+  pub list : entriesIn (crateAt (final start xs) c) ≡ endOn start c xs .entries
   -- "The number of frames sent on a crate", as `frames_sent` reports it: it is that of the frames above, "the accepted replies and time-ups of
   -- this pass, and one more while a frame is outstanding", and bounded
   pub number : sentAnswer (final start xs) c ≡ given (length (framesOn start c xs))

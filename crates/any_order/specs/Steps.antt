@@ -8,7 +8,7 @@ use Rattle.refusals.specs.Tables.{Answer, given, refused}
 use Rattle.ftu_list.specs.declared.Entry.{Entry}
 use Rattle.steps.specs.Steps.{heardIn, silence}
 use Rattle.steps.specs.declared.Heard.{Heard}
-use Rattle.crate_pass.specs.Crate.{serves, entriesWith}
+use Rattle.crate_pass.specs.Crate.{serves, callsAt}
 use Rattle.crate_pass.specs.declared.PassKind.{PassKind}
 use Rattle.crate_pass.specs.declared.PassKind.the-variants.{Reprogramming, Ping}
 use Rattle.crate_pass.specs.declared.Outcome.{Outcome}
@@ -89,6 +89,14 @@ none (s ∷ ss) = false
 unfoldable pub others : ℕ → List Step → List Step
 others b [] = []
 others b (s ∷ ss) = cond (eqb (s .board) b) (others b ss) (s ∷ others b ss)
+
+-- what a ping found of a board: the calls that it needed, its DNA and its CRC errors
+abbrev pub entryOf : ℕ → Heard → Entry
+entryOf tries h = record { dna = h .dna; calls = callsAt tries; «crc_errors» = h .«crc_errors» }
+
+-- the list with an entry for the board, where its frame was a ping
+unfoldable pub entriesWith : ℕ → ℕ → ℕ → Heard → List Entry → List Entry
+entriesWith board code tries h entries = cond (eqb code 4) (set entries board (entryOf tries h)) entries
 
 -- a pass as it begins, with the entries that it begins with: the first frame, if any, is sent
 unfoldable pub opened : List Step → List Entry → Pass

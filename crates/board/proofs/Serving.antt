@@ -1,26 +1,33 @@
 -- Replies and time-ups on a board, and the outstanding frame.
 -- Assumes nothing.
-use Prim.Native.Nat.{ℕ}
-use mathlib.Core.Path.{_≡_, refl, sym, ap, _∙_}
+use Prim.Native.Nat.{ℕ, _<_, _≤_}
+use mathlib.Core.Path.{_≡_, refl, sym, ap, ap₂, _∙_, subst}
+use mathlib.Core.Bool.{Bool, true, false, cond}
 use mathlib.Core.List.{List, []}
+use lib.ListN.{set}
+use lib.Seq.{set-getD}
+use borrow.Author.Tests.{le-ltb}
 use Rattle.refusals.specs.Refusals.{numberOf, placeOf}
-use Rattle.refusals.specs.Tables.{Answer, given, refused, lowest, onPaper}
+use Rattle.refusals.specs.Tables.{given, refused, lowest, onPaper}
 use Rattle.refusals.specs.Writing.{Wrote}
 use Rattle.refusals.specs.declared.Refusal.{Refusal}
+use Rattle.refusals.specs.declared.Refusal.the-variants.{NoSuchCrate}
 use Rattle.refusals.specs.declared.Written.{Written}
 use Rattle.refusals.specs.declared.Written.the-variants.{Refused}
 use Rattle.refusals.proofs.Tables.{given-clear, given-same, refused-any}
 use Rattle.refusals.proofs.Writing.{wrote-refused, wrote-under}
 use Rattle.configuration.specs.Configuration.{activeWord}
-use Rattle.steps.specs.Steps.{stepFrame}
+use Rattle.steps.specs.Steps.{stepFrame, heardIn}
 use Rattle.steps.specs.declared.Heard.{Heard}
-use Rattle.crate_pass.specs.declared.Outcome.{Outcome}
-use Rattle.four_crates.specs.FourCrates.{servedRules, outstandingAnswer, servedAnswer, afterServed, ServesOn}
-use Rattle.four_crates.specs.declared.FourServed.{FourServed}
+use Rattle.crate_pass.specs.Crate.{isDone, crateAnswer, crateAfter, Serves}
+use Rattle.crate_pass.specs.declared.Crate.{Crate}
+use Rattle.crate_pass.specs.declared.CrateServed.{CrateServed}
+use Rattle.crate_pass.specs.declared.ReplyAnswer.the-variants as reply-answer
+use Rattle.four_crates.proofs.OneCrate.{rules-11}
+use Rattle.four_crates.specs.FourCrates.{noCrate, servedRules, outstandingAnswer, servedAnswer}
 use Rattle.board.specs.State.{crateAt, withCrates}
 use Rattle.board.specs.SlowControl.{frameAt, fetchRules, movedAt, replyAnswer, afterReply, boardReplied, Replies}
 use Rattle.board.specs.declared.Board.{Board}
-use Rattle.board.specs.declared.Replied.{Replied}
 
 module _ (β : Board) (i : ℕ) where
   -- ---- what is outstanding
@@ -51,22 +58,51 @@ module _ (β : Board) (i : ℕ) where
     pub fetch-refused : (out : List ℕ) → Wrote (fetchRules β i) (frameAt β i) out (Refused r) out
     fetch-refused out = wrote-refused (fetchRules β i) (frameAt β i) out r (refuses 0)
 
-    -- it is one then what was heard
-    pub any-heard : (g h : Heard) (s : Replied) → Replies β i g s → Replies β i h s
-    unfolding servedAnswer boardReplied
-    any-heard g h s q =
-        let eg : replyAnswer β i g ≡ refused (numberOf r) (placeOf r) = refuses (movedAt β i g .outcome) in
-        let eh : replyAnswer β i h ≡ refused (numberOf r) (placeOf r) = refuses (movedAt β i h .outcome) in
-        record { answer = q .answer ∙ eg ∙ sym eh; board = q .board ∙ ap (afterReply β i g) eg ∙ sym (ap (afterReply β i h) eh) }
+  -- what is heard in answer to the step of the crate k there
+  pub heard-at : (k : Crate) (bytes : List ℕ) (h : Heard) → h ≡ heardIn (stepFrame (β .block) i (k .board) (k .code)) bytes → k ≡ crateAt β i
+      → h ≡ heardIn (frameAt β i) bytes
+  unfolding frameAt
+  heard-at k bytes h e q = e ∙ ap (λ (x : Crate). heardIn (stepFrame (β .block) i (x .board) (x .code)) bytes) q
 
-  -- ---- a reply or a time-up
+  -- ---- a reply or a time-up: what is heard on a crate up to 3 is that crate's to answer, and changes it alone
 
-  -- what the four crates answer, and the crates after it, are the board's
-  pub replies-served : (h : Heard) (r : FourServed) → ServesOn (β .crates) i (β .kind) (activeWord (β .block) i) h r
-      → Replies β i h (record { answer = r .answer; board = withCrates β (r .crates) })
-  unfolding boardReplied withCrates
-  replies-served h r s = record { answer = s .answer; board = ap (withCrates β) (s .crates) ∙ go (replyAnswer β i h) }
-    where
-      go : (a : Answer Outcome) → withCrates β (afterServed (β .crates) i (β .kind) (activeWord (β .block) i) h a) ≡ afterReply β i h a
-      go (given o) = refl
-      go (refused n p) = refl
+  pub with-same : withCrates β (β .crates) ≡ β
+  unfolding withCrates
+  with-same = refl
+
+  module _ (h : Heard) where
+    pub answer-high : 3 < i → replyAnswer β i h ≡ refused 11 0
+    unfolding servedAnswer
+    answer-high l = rules-11 (β .crates) i (movedAt β i h .outcome) l
+
+    pub board-high : 3 < i → boardReplied β i h ≡ β
+    unfolding boardReplied
+    board-high l = ap (afterReply β i h) (answer-high l)
+
+    pub answer-low : i ≤ 3 → replyAnswer β i h ≡ crateAnswer (β .kind) (activeWord (β .block) i) (crateAt β i) h
+    unfolding servedAnswer crateAnswer
+    answer-low l = rw (le-ltb _ _ l)
+
+    pub board-low : i ≤ 3 → boardReplied β i h ≡ withCrates β (set (β .crates) i (crateAfter (β .kind) (activeWord (β .block) i) (crateAt β i) h))
+    unfolding boardReplied crateAfter crateAnswer
+    board-low l = ap (afterReply β i h) (answer-low l) ∙ go (isDone (crateAt β i))
+      where
+        go : (t : Bool) → afterReply β i h (cond t (refused 12 0) (given (movedAt β i h .outcome)))
+            ≡ withCrates β (set (β .crates) i (cond t (crateAt β i) (movedAt β i h .state)))
+        go true = sym (ap (withCrates β) (set-getD (β .crates) i noCrate) ∙ with-same)
+        go false = refl
+
+    pub replies-11 : 3 < i → Replies β i h (record { board = β; answer = reply-answer.Refused NoSuchCrate })
+    replies-11 l = record { answer = sym (answer-high l); board = sym (board-high l) }
+
+    -- `k`, `w`, `j`: the crate, its word of active flags and its place as the code has them
+    module _ (k : Crate) (w : ℕ) (r : CrateServed) (s : Serves (β .kind) w k h r) where
+      pub replies-crate : (j : ℕ) → i ≡ j → j ≤ 3 → k ≡ crateAt β i → (i ≤ 3 → w ≡ activeWord (β .block) i)
+          → Replies β i h (record { board = withCrates β (set (β .crates) j (r .state)); answer = r .answer })
+      replies-crate j e l ek ew =
+          let low : i ≤ 3 = subst (λ n. n ≤ 3) (sym e) l in
+          let served : Serves (β .kind) (activeWord (β .block) i) (crateAt β i) h r = rw (ek, ew low) at s in
+          record {
+            answer = served .answer ∙ sym (answer-low low);
+            board = ap₂ (λ x y. withCrates β (set (β .crates) x y)) (sym e) (served .state) ∙ sym (board-low low);
+          }

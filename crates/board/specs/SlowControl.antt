@@ -7,9 +7,8 @@ use Rattle.refusals.specs.Tables.{Answer, given, refused, Rule}
 use Rattle.configuration.specs.Configuration.{activeWord}
 use Rattle.steps.specs.Steps.{stepFrame}
 use Rattle.steps.specs.declared.Heard.{Heard}
-use Rattle.crate_pass.specs.Crate.{replyOnPaper}
+use Rattle.crate_pass.specs.Crate.{Moved, replyOnPaper}
 use Rattle.crate_pass.specs.declared.Outcome.{Outcome}
-use Rattle.crate_pass.specs.declared.Moved.{Moved}
 use Rattle.four_crates.specs.FourCrates.{servedRules, movedOn, servedAnswer, sentOn}
 use Rattle.board.specs.State.{crateAt, withCrates}
 use Rattle.board.specs.declared.Board.{Board}

@@ -6,12 +6,13 @@ ghost use Prim.Native.Nat.{_≤_};
 ghost use lib.ListN.{length};
 ghost use Rattle.refusals.specs.Writing.{Wrote};
 ghost use Rattle.blocks.specs.Blocks.{measurementRules};
+ghost use Rattle.configuration.specs.Configuration.{activeWord};
 ghost use Rattle.acceptance.specs.Acceptance.{answerOnPaper};
 ghost use Rattle.run.specs.Run.{clockedRun, refreshed};
 ghost use Rattle.crate_pass.specs.declared.PassKind.the-variants.{Reprogramming, Ping};
 ghost use Rattle.steps.specs.Steps.{heardIn, silence};
 ghost use Rattle.four_crates.specs.FourCrates.{sentOnPaper};
-ghost use Rattle.board.specs.State.{activeWords, isIdle, situationOf, withRun, withCrates, freshBoard, PowersUp};
+ghost use Rattle.board.specs.State.{activeWords, isIdle, situationOf, withRun, freshBoard, PowersUp};
 ghost use Rattle.board.specs.Commands.{blockIn, written, pinged, boardAnswer, boardAfter, Obeys, TriggersOn};
 ghost use Rattle.board.specs.SlowControl.{frameAt, Replies, fetchRules, sentAnswer};
 ghost use Rattle.board.specs.SentOut.{headerOf, staticDue, dynamicDue, listRules, listDue, failureRules, failureDue};
@@ -23,7 +24,6 @@ use blocks::write_dynamic;
 use blocks::write_failure;
 use blocks::write_static;
 use commands::Command;
-use configuration::active_word;
 use crate_pass::Crate;
 use crate_pass::PassKind;
 use crate_pass::ReplyAnswer;
@@ -36,7 +36,6 @@ use four_crates::in_pass;
 use four_crates::outstanding_on;
 use four_crates::record_at;
 use four_crates::sent_on;
-use four_crates::serve_on;
 use ftu_list::FtuList;
 use ftu_list::write_list;
 use packets::Fields;
@@ -44,7 +43,6 @@ use refusals::Refusal;
 use refusals::Written;
 use run::Run;
 use run::run_at_power_up;
-use steps::Heard;
 use steps::hear_step;
 use steps::nothing_heard;
 use steps::step_frame;
@@ -58,18 +56,19 @@ pub struct Identity {
     pub firmware_id: u16,
 }
 
+// The arrays stand first and what changes most stands last, so that a call copies as little as it can.
 pub struct Board {
+    // Changed by an accepted write alone.
+    pub block: [u16; 436],
+    // Each changed by its own replies and time-ups, and by the begin of a pass.
+    pub crates: [Crate; 4],
+    // The active words as stored when the last ping began.
+    pub active: [u16; 4],
+    // Of the last pass begun.
+    pub kind: PassKind,
     pub identity: Identity,
     // Changed by commands, clock steps and triggers.
     pub run: Run,
-    // Changed by an accepted write alone.
-    pub block: [u16; 436],
-    // Of the last pass begun.
-    pub kind: PassKind,
-    // The active words as stored when the last ping began.
-    pub active: [u16; 4],
-    // Each changed by its own replies and time-ups, and by the begin of a pass.
-    pub crates: [Crate; 4],
 }
 
 // Whether a board came up.
@@ -85,20 +84,20 @@ pub struct PoweredUp {
 }
 
 pub struct Obedience {
+    pub board: Board,
     pub answer: CommandAnswer,
     // The words that the command used.
     pub used: usize,
-    pub board: Board,
 }
 
 pub struct TriggeredOn {
-    pub answer: Written,
     pub board: Board,
+    pub answer: Written,
 }
 
 pub struct Replied {
-    pub answer: ReplyAnswer,
     pub board: Board,
+    pub answer: ReplyAnswer,
 }
 
 // A board as power-up gives it.
@@ -151,6 +150,18 @@ fn active_words(block: [u16; 436]) -> [u16; 4]
     ensures { λ r. ⌜ r ≡ activeWords block ⌝ }
 {
     [block[0x1B0], block[0x1B1], block[0x1B2], block[0x1B3]]
+}
+
+// The word of active flags of a crate up to 3.
+fn flags_of(block: [u16; 436], index: u8) -> u16
+    ensures { λ r. ⌜ (index ≤ 3 → r ≡ activeWord block index) ⌝ }
+{
+    match index {
+        0 => block[0x1B0],
+        1 => block[0x1B1],
+        2 => block[0x1B2],
+        _ => block[0x1B3],
+    }
 }
 
 // The kind of the pass that a write or a ping begins.
@@ -237,31 +248,32 @@ impl Board {
         let next_active = active_after(active, is_write, flags);
         let begun = begin_all(crates, kind, flags);
         Board {
+            block: next_block,
+            crates: begun,
+            active: next_active,
+            kind,
             identity,
             run: next_run,
-            block: next_block,
-            kind,
-            active: next_active,
-            crates: begun,
         }
     }
 
     // Does what an obeyed command says. A read, a crate reset and a refusal change nothing.
-    fn carry_out(self, answer: CommandAnswer, words: &[u16]) -> Board
+    fn carry_out(mut self, answer: CommandAnswer, words: &[u16]) -> Board
         requires { ⌜ answerOnPaper answer ≡ boardAnswer self (now words) ⌝ }
         ensures { λ r. ⌜ r ≡ boardAfter self (now (words .entry)) ⌝ }
     {
         let run = self.run;
         match answer {
-            CommandAnswer::Refused(_) => self,
+            CommandAnswer::Refused(_) => {}
             CommandAnswer::Obeyed(c) => match c {
-                Command::Read(_) => self,
-                Command::Start(length) => self.with_run(run.start(length)),
-                Command::Stop => self.with_run(run.stop()),
-                Command::CrateReset(_) => self,
-                Command::Write | Command::Ping => self.begin(c.is_write(), words),
+                Command::Read(_) => {}
+                Command::Start(length) => self.run = run.start(length),
+                Command::Stop => self.run = run.stop(),
+                Command::CrateReset(_) => {}
+                Command::Write | Command::Ping => self = self.begin(c.is_write(), words),
             },
         }
+        self
     }
 
     // The first command of the words.
@@ -271,9 +283,9 @@ impl Board {
         let decision = decide(words, self.situation());
         let answer = decision.answer;
         Obedience {
+            board: self.carry_out(answer, words),
             answer,
             used: decision.used,
-            board: self.carry_out(answer, words),
         }
     }
 
@@ -299,51 +311,68 @@ impl Board {
         }
     }
 
-    // The board with other crates.
-    fn with_crates(self, crates: [Crate; 4]) -> Board
-        ensures { λ r. ⌜ r ≡ withCrates self crates ⌝ }
-    {
-        let mut next = self;
-        next.crates = crates;
-        next
-    }
-
-    // What every reply and time-up does: a refusal, or a step of its crate.
-    fn serve(self, index: u8, heard: Heard) -> Replied
-        ensures { λ r. ⌜ Replies self index heard r ⌝ }
-    {
-        let crates = self.crates;
-        let block = self.block;
-        let kind = self.kind;
-        let served = serve_on(crates, index, kind, active_word(&block, index), heard);
-        let answer = served.answer;
-        let after = served.crates;
-        Replied {
-            answer,
-            board: self.with_crates(after),
-        }
-    }
-
-    // A reply, of any length, on a crate.
-    pub fn reply(self, index: u8, bytes: &[u8]) -> Replied
+    // A reply, of any length, on a crate. (One way out and constant places, so that little of the board is copied.)
+    pub fn reply(mut self, index: u8, bytes: &[u8]) -> Replied
         ensures { λ r. ⌜ Replies self index (heardIn (frameAt self index) (now (bytes .entry))) r ⌝ }
     {
-        let crates = self.crates;
+        let kind = self.kind;
         let block = self.block;
-        match outstanding_on(crates, index) {
-            Outstanding::Step(board, code) => self.serve(
-                index,
-                hear_step(&block, index, board, code, bytes),
-            ),
-            Outstanding::Refused(_) => self.serve(index, nothing_heard()),
+        let word = flags_of(block, index);
+        let first = self.crates[0];
+        let second = self.crates[1];
+        let third = self.crates[2];
+        let fourth = self.crates[3];
+        let own = match index {
+            0 => first,
+            1 => second,
+            2 => third,
+            _ => fourth,
+        };
+        let heard = hear_step(&block, index, own.board, own.code, bytes);
+        let served = own.serve(kind, word, heard);
+        let after = served.state;
+        let mut answer = served.answer;
+        match index {
+            0 => self.crates[0] = after,
+            1 => self.crates[1] = after,
+            2 => self.crates[2] = after,
+            3 => self.crates[3] = after,
+            _ => answer = ReplyAnswer::Refused(Refusal::NoSuchCrate),
+        }
+        Replied {
+            board: self,
+            answer,
         }
     }
 
     // A time-up on a crate.
-    pub fn time_up(self, index: u8) -> Replied
+    pub fn time_up(mut self, index: u8) -> Replied
         ensures { λ r. ⌜ Replies self index silence r ⌝ }
     {
-        self.serve(index, nothing_heard())
+        let kind = self.kind;
+        let block = self.block;
+        let word = flags_of(block, index);
+        let own = match index {
+            0 => self.crates[0],
+            1 => self.crates[1],
+            2 => self.crates[2],
+            _ => self.crates[3],
+        };
+        let heard = nothing_heard();
+        let served = own.serve(kind, word, heard);
+        let state = served.state;
+        let mut answer = served.answer;
+        match index {
+            0 => self.crates[0] = state,
+            1 => self.crates[1] = state,
+            2 => self.crates[2] = state,
+            3 => self.crates[3] = state,
+            _ => answer = ReplyAnswer::Refused(Refusal::NoSuchCrate),
+        }
+        Replied {
+            board: self,
+            answer,
+        }
     }
 
     // The frame outstanding on a crate, into lent bytes.

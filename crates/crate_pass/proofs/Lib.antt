@@ -1,4 +1,5 @@
 -- Laws that belong to no one function.
 pub mod Next
 pub mod Serving
+pub mod Entries
 pub mod Tables

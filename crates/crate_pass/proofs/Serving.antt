@@ -1,31 +1,71 @@
--- A reply or a time-up served: a law for a crate with nothing outstanding, and one for one that moves, by a good reply or otherwise.
+-- A reply or a time-up served: a law for a crate with nothing outstanding, and one for each way that one moves.
 -- Assumes nothing.
-use Prim.Native.Nat.{ℕ}
-use mathlib.Core.Path.{_≡_, sym, ap}
-use mathlib.Core.Bool.{Bool, true, false, cond}
+use Prim.Native.Nat.{ℕ, _<_, _≤_}
+use mathlib.Core.Path.{_≡_, refl}
+use mathlib.Core.Bool.{Bool, true, false}
+use mathlib.Core.List.{List}
+use lib.Dec.{ltb, leb}
+use lib.ListN.{set}
+use borrow.Author.Tests.{lt-ltb, le-ltb, lt-leb, ne-eqb}
 use Rattle.refusals.specs.declared.Refusal.the-variants.{NothingOutstanding}
 use Rattle.steps.specs.declared.Heard.{Heard}
 use Rattle.crate_pass.specs.declared.PassKind.{PassKind}
 use Rattle.crate_pass.specs.declared.ReplyAnswer.the-variants.{Served, Refused}
 use Rattle.crate_pass.specs.declared.Crate.{Crate}
-use Rattle.crate_pass.specs.declared.Moved.{Moved}
-use Rattle.crate_pass.specs.Crate.{isDone, passed, missed, moved, crateAnswer, crateAfter, Serves}
+use Rattle.crate_pass.specs.declared.Place.{Place}
+use Rattle.crate_pass.specs.declared.Outcome.the-variants.{Good, Again, BoardFailed}
+use Rattle.crate_pass.specs.Crate.{isDone, countedFrame, callsAt, notedIn, placed, advanced, stepped, noted, marked}
+use Rattle.crate_pass.specs.Crate.{Moved, told, passed, missed, moved, crateAnswer, crateAfter, Serves}
+use Rattle.crate_pass.specs.NextPlace.{nextPlace, placeAfter}
 
 module _ (kind : PassKind) (w : ℕ) (k : Crate) (h : Heard) where
-  pub serves-none : isDone k ≡ true → Serves kind w k h (record { answer = Refused NothingOutstanding; state = k })
+  pub serves-none : isDone k ≡ true → Serves kind w k h (record { state = k; answer = Refused NothingOutstanding })
   unfolding crateAnswer crateAfter
   serves-none d = record { answer = rw d; state = rw d }
 
-  pub serves-moved : (m : Moved) → isDone k ≡ false → m ≡ moved kind w k h → Serves kind w k h (record { answer = Served (m .outcome); state = m .state })
+  serves-moved : (m : Moved) → isDone k ≡ false → m ≡ moved kind w k h → Serves kind w k h (record { state = m .state; answer = Served (m .outcome) })
   unfolding crateAnswer crateAfter
   serves-moved m d e = record { answer = rw (d, e); state = rw (d, e) }
 
-  -- which of the two moves it is
-  by-reply : (t : Bool) → h .good ≡ t → cond t (passed kind w k h) (missed kind w k) ≡ moved kind w k h
-  by-reply t g = ap (λ (b : Bool). cond b (passed kind w k h) (missed kind w k)) (sym g)
+  -- where the crate goes on
+  abbrev onward : Place
+  onward = placeAfter kind w (record { board = k .board; code = k .code; tries = k .tries }) (h .good)
 
-  pub moved-good : h .good ≡ true → passed kind w k h ≡ moved kind w k h
-  moved-good g = by-reply true g
+  -- `to` and `n`: the place where it goes on, and its number of frames there
+  module _ (d : k .board < 10) (to : Place) (et : to ≡ onward) (n : ℕ) (en : n ≡ countedFrame (to .board) (k .sent)) where
+    abbrev crateWith : List ℕ → List ℕ → List ℕ → List ℕ → Crate
+    crateWith dna calls errors failed =
+        record { dna = dna; calls = calls; «crc_errors» = errors; failed = failed; sent = n; board = to .board; code = to .code; tries = to .tries }
 
-  pub moved-bad : h .good ≡ false → missed kind w k ≡ moved kind w k h
-  moved-bad g = by-reply false g
+    -- a good reply to a ping, and to another frame
+    pub serves-noted : (m : ℕ) → m ≡ callsAt (k .tries) → h .good ≡ true → k .code ≡ 4
+        → Serves kind w k h (record {
+          state = crateWith (set (k .dna) (k .board) (h .dna)) (set (k .calls) (k .board) m) (set (k .«crc_errors») (k .board) (h .«crc_errors»)) (k .failed);
+          answer = Served (Good (leb 10 (to .board)));
+        })
+    unfolding placeAfter nextPlace passed stepped noted notedIn advanced placed
+    serves-noted m em g q = rw (em, en, et) (serves-moved _ (lt-leb _ _ d) (rw (g, q) refl))
+
+    pub serves-good : h .good ≡ true → (k .code ≡ 4 → ⊥)
+        → Serves kind w k h (record { state = crateWith (k .dna) (k .calls) (k .«crc_errors») (k .failed); answer = Served (Good (leb 10 (to .board))) })
+    unfolding placeAfter nextPlace passed stepped noted notedIn advanced placed
+    serves-good g q = go (ltb (k .code) 3) refl
+      where
+        go : (t : Bool) → ltb (k .code) 3 ≡ t
+            → Serves kind w k h (record { state = crateWith (k .dna) (k .calls) (k .«crc_errors») (k .failed); answer = Served (Good (leb 10 (to .board))) })
+        go true l = rw (en, et) (serves-moved _ (lt-leb _ _ d) (rw (g, ne-eqb _ _ q, l) refl))
+        go false l = rw (en, et) (serves-moved _ (lt-leb _ _ d) (rw (g, ne-eqb _ _ q, l) refl))
+
+    -- a first or second miss, and a third
+    pub serves-again : h .good ≡ false → k .tries < 2
+        → Serves kind w k h (record { state = crateWith (k .dna) (k .calls) (k .«crc_errors») (k .failed); answer = Served (Again (leb 10 (to .board))) })
+    unfolding placeAfter nextPlace missed placed
+    serves-again g l = rw (en, et) (serves-moved _ (lt-leb _ _ d) (rw (g, lt-ltb _ _ l) refl))
+
+    pub serves-failed : h .good ≡ false → 2 ≤ k .tries
+        → Serves kind w k h (record {
+          state = crateWith (k .dna) (k .calls) (k .«crc_errors») (set (k .failed) (k .board) (k .code));
+          answer = Served (BoardFailed (leb 10 (to .board)));
+        })
+    unfolding placeAfter nextPlace missed marked advanced placed
+    serves-failed g l = rw (en, et) (serves-moved _ (lt-leb _ _ d) (rw (g, le-ltb _ _ l) refl))

@@ -16,7 +16,6 @@ use Rattle.crate_pass.specs.declared.Outcome.the-variants.{Good, Again, 
 use Rattle.crate_pass.specs.declared.ReplyAnswer.{ReplyAnswer}
 use Rattle.crate_pass.specs.declared.ReplyAnswer.the-variants.{Served, Refused}
 use Rattle.crate_pass.specs.declared.Crate.{Crate}
-use Rattle.crate_pass.specs.declared.Moved.{Moved}
 use Rattle.crate_pass.specs.declared.CrateServed.{CrateServed}
 
 -- "In a reprogramming pass each crate serves its active boards ..; in a ping, all ten"
@@ -39,9 +38,19 @@ firstCode Ping = 4
 
 -- ---- power-up, and the begin of a pass
 
+-- what the crate keeps of each board, as entries of the FTU list: a board's DNA, calls and CRC errors stand at its number
+unfoldable pub entriesFrom : List ℕ → List ℕ → List ℕ → List Entry
+entriesFrom [] calls errors = []
+entriesFrom (d ∷ dna) [] errors = []
+entriesFrom (d ∷ dna) (n ∷ calls) [] = []
+entriesFrom (d ∷ dna) (n ∷ calls) (e ∷ errors) = record { dna = d; calls = n; «crc_errors» = e } ∷ entriesFrom dna calls errors
+
+abbrev pub entriesIn : Crate → List Entry
+entriesIn k = entriesFrom (k .dna) (k .calls) (k .«crc_errors»)
+
 -- a board that did not answer: "six zeros" in the list
 abbrev pub silent : Entry
-silent = record { calls = 0; dna = 0; «crc_errors» = 0 }
+silent = record { dna = 0; calls = 0; «crc_errors» = 0 }
 
 -- nothing is outstanding: the place is no board
 abbrev pub isDone : Crate → Bool
@@ -49,27 +58,42 @@ isDone k = leb 10 (k .board)
 
 -- "an empty list, no failure records", and the number of frames "is 0 before any" pass
 abbrev pub crateAtPowerUp : Crate
-crateAtPowerUp = record { board = 10; code = 0; tries = 0; sent = 0; failed = replicate 10 0; entries = replicate 10 silent }
+crateAtPowerUp =
+    record {
+      dna = replicate 10 0;
+      calls = replicate 10 0;
+      «crc_errors» = replicate 10 0;
+      failed = replicate 10 0;
+      sent = 0;
+      board = 10;
+      code = 0;
+      tries = 0;
+    }
 
 -- the number of frames as a pass begins: "one more while a frame is outstanding"
 unfoldable pub sentAt : ℕ → ℕ
 sentAt board = cond (ltb board 10) 1 0
 
 -- "A ping clears the list as it begins; no other command changes it"
-abbrev pub keptEntries : PassKind → List Entry → List Entry
-keptEntries Reprogramming entries = entries
-keptEntries Ping entries = replicate 10 silent
+abbrev pub clearsList : PassKind → Bool
+clearsList Reprogramming = false
+clearsList Ping = true
+
+abbrev pub kept : PassKind → List ℕ → List ℕ
+kept kind ns = cond (clearsList kind) (replicate 10 0) ns
 
 -- records "are cleared when a pass begins"
 unfoldable pub begunCrate : PassKind → ℕ → Crate → Crate
 begunCrate kind w k =
     record {
+      dna = kept kind (k .dna);
+      calls = kept kind (k .calls);
+      «crc_errors» = kept kind (k .«crc_errors»);
+      failed = replicate 10 0;
+      sent = sentAt (nextBoard kind w 0);
       board = nextBoard kind w 0;
       code = firstCode kind;
       tries = 0;
-      sent = sentAt (nextBoard kind w 0);
-      failed = replicate 10 0;
-      entries = keptEntries kind (k .entries);
     }
 
 -- ---- from step to step
@@ -81,7 +105,16 @@ countedFrame b n = cond (ltb b 10) (cond (ltb n 65535) (n + 1) n) n
 -- another place of the crate
 unfoldable pub placed : Crate → ℕ → ℕ → ℕ → Crate
 placed k b code tries =
-    record { board = b; code = code; tries = tries; sent = countedFrame b (k .sent); failed = k .failed; entries = k .entries }
+    record {
+      dna = k .dna;
+      calls = k .calls;
+      «crc_errors» = k .«crc_errors»;
+      failed = k .failed;
+      sent = countedFrame b (k .sent);
+      board = b;
+      code = code;
+      tries = tries;
+    }
 
 -- the first step of the next board
 unfoldable pub advanced : PassKind → ℕ → Crate → Crate
@@ -95,30 +128,44 @@ stepped kind w k = cond (ltb (k .code) 3) (placed k (k .board) (k .code + 1) 0) 
 abbrev pub callsAt : ℕ → ℕ
 callsAt tries = cond (ltb tries 2) (tries + 1) 3
 
-abbrev pub entryOf : ℕ → Heard → Entry
-entryOf tries h = record { calls = callsAt tries; dna = h .dna; «crc_errors» = h .«crc_errors» }
+-- a number for the board, among those of the boards, where its frame was a ping
+unfoldable pub notedIn : Crate → List ℕ → ℕ → List ℕ
+notedIn k ns n = cond (eqb (k .code) 4) (set ns (k .board) n) ns
 
--- the list with an entry for the board, where its frame was a ping
-unfoldable pub entriesWith : ℕ → ℕ → ℕ → Heard → List Entry → List Entry
-entriesWith board code tries h entries = cond (eqb code 4) (set entries board (entryOf tries h)) entries
-
+-- the list with an entry for the board: the calls that it needed, its DNA, and its CRC errors
 unfoldable pub noted : Crate → Heard → Crate
 noted k h =
     record {
+      dna = notedIn k (k .dna) (h .dna);
+      calls = notedIn k (k .calls) (callsAt (k .tries));
+      «crc_errors» = notedIn k (k .«crc_errors») (h .«crc_errors»);
+      failed = k .failed;
+      sent = k .sent;
       board = k .board;
       code = k .code;
       tries = k .tries;
-      sent = k .sent;
-      failed = k .failed;
-      entries = entriesWith (k .board) (k .code) (k .tries) h (k .entries);
     }
 
 -- "the board gets a failure record": the code of the step that failed
 unfoldable pub marked : Crate → Crate
 marked k =
-    record { board = k .board; code = k .code; tries = k .tries; sent = k .sent; failed = set (k .failed) (k .board) (k .code); entries = k .entries }
+    record {
+      dna = k .dna;
+      calls = k .calls;
+      «crc_errors» = k .«crc_errors»;
+      failed = set (k .failed) (k .board) (k .code);
+      sent = k .sent;
+      board = k .board;
+      code = k .code;
+      tries = k .tries;
+    }
 
 -- ---- replies and time-ups
+
+-- an outcome, with the crate after it
+pub record Moved : Type 0 where
+  pub outcome : Outcome
+  pub state : Crate
 
 -- an outcome says "whether the crate is done"
 abbrev pub told : (Bool → Outcome) → Crate → Moved

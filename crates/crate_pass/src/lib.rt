@@ -1,9 +1,9 @@
 // One crate's part in a pass: the frame that is outstanding on it, its tries, its number of frames, what failed, and its part of the FTU list.
 ghost use mathlib.Core.Path.{_≡_};
 ghost use Prim.Native.Nat.{_<_};
-ghost use Rattle.crate_pass.specs.Crate.{nextBoard, firstCode, callsAt, crateAtPowerUp, isDone, sentAt, begunCrate, placed, advanced, stepped, noted, marked, passed, missed, moved, Serves};
+ghost use Rattle.crate_pass.specs.Crate.{nextBoard, firstCode, callsAt, clearsList, crateAtPowerUp, isDone, sentAt, begunCrate, countedFrame, Serves};
+ghost use Rattle.crate_pass.specs.NextPlace.{nextPlace, placeAfter};
 use configuration::flag_set;
-use ftu_list::Entry;
 use refusals::Refusal;
 use steps::Heard;
 
@@ -25,31 +25,35 @@ pub enum ReplyAnswer {
     Refused(Refusal),
 }
 
+// The arrays stand first and what changes most stands last, so that a begin clears an array at once and little is copied.
 pub struct Crate {
+    // The boards' part of the FTU list, each board's at its number: its DNA, the calls that it needed, its CRC error byte.
+    pub dna: [u64; 10],
+    pub calls: [u8; 10],
+    pub crc_errors: [u8; 10],
+    // For each board the code of its step that failed, 0 where none did.
+    pub failed: [u8; 10],
+    // The frames sent in this pass.
+    pub sent: u16,
     // The board whose frame is outstanding; 10 where none is.
     pub board: u8,
     // The number of that frame's code.
     pub code: u8,
     // How often that step failed.
     pub tries: u8,
-    // The frames sent in this pass.
-    pub sent: u16,
-    // For each board the code of its step that failed, 0 where none did.
-    pub failed: [u8; 10],
-    // The boards' part of the FTU list.
-    pub entries: [Entry; 10],
 }
 
-// An outcome, with the crate after it.
-pub struct Moved {
-    pub outcome: Outcome,
-    pub state: Crate,
+// Where a crate is: a board, a code, and how often that step failed.
+pub struct Place {
+    pub board: u8,
+    pub code: u8,
+    pub tries: u8,
 }
 
 // An answer, with the crate after it.
 pub struct CrateServed {
-    pub answer: ReplyAnswer,
     pub state: Crate,
+    pub answer: ReplyAnswer,
 }
 
 // The first active board from one on, or 10.
@@ -100,22 +104,78 @@ fn sent_at(board: u8) -> u16
     if board < 10 { 1 } else { 0 }
 }
 
+// The first step of the next board that the pass serves.
+fn next_place(kind: PassKind, word: u16, board: u8) -> Place
+    requires { ⌜ board < 10 ⌝ }
+    ensures { λ r. ⌜ r ≡ nextPlace kind word board ⌝ }
+{
+    Place {
+        board: next_board(kind, word, board + 1),
+        code: first_code(kind),
+        tries: 0,
+    }
+}
+
+// The place after a good reply or a miss: the next step, the same again, or the next board.
+fn place_after(kind: PassKind, word: u16, at: Place, good: bool) -> Place
+    requires { ⌜ at .board < 10 ⌝ }
+    ensures { λ r. ⌜ r ≡ placeAfter kind word at good ⌝ }
+{
+    if good {
+        if at.code < 3 {
+            return Place {
+                board: at.board,
+                code: at.code + 1,
+                tries: 0,
+            };
+        }
+        return next_place(kind, word, at.board);
+    }
+    if at.tries < 2 {
+        return Place {
+            board: at.board,
+            code: at.code,
+            tries: at.tries + 1,
+        };
+    }
+    next_place(kind, word, at.board)
+}
+
+// One frame more where the place is a board.
+fn count_frame(board: u8, sent: u16) -> u16
+    ensures { λ r. ⌜ r ≡ countedFrame board sent ⌝ }
+{
+    if board < 10 {
+        if sent < 65535 {
+            return sent + 1;
+        }
+    }
+    sent
+}
+
+// Whether a pass clears the FTU list as it begins.
+fn clears_list(kind: PassKind) -> bool
+    ensures { λ r. ⌜ r ≡ clearsList kind ⌝ }
+{
+    match kind {
+        PassKind::Reprogramming => false,
+        PassKind::Ping => true,
+    }
+}
+
 // Nothing outstanding, no frame sent, no failure, and an empty part of the list.
 pub fn crate_at_power_up() -> Crate
     ensures { λ r. ⌜ r ≡ crateAtPowerUp ⌝ }
 {
-    let silent = Entry {
-        calls: 0,
-        dna: 0,
-        crc_errors: 0,
-    };
     Crate {
+        dna: [0; 10],
+        calls: [0; 10],
+        crc_errors: [0; 10],
+        failed: [0; 10],
+        sent: 0,
         board: 10,
         code: 0,
         tries: 0,
-        sent: 0,
-        failed: [0; 10],
-        entries: [silent; 10],
     }
 }
 
@@ -128,168 +188,66 @@ impl Crate {
     }
 
     // The crate as a pass begins; a ping clears its part of the list.
-    pub fn begin(self, kind: PassKind, word: u16) -> Crate
+    pub fn begin(mut self, kind: PassKind, word: u16) -> Crate
         ensures { λ r. ⌜ r ≡ begunCrate kind word self ⌝ }
     {
         let board = next_board(kind, word, 0);
-        let code = first_code(kind);
-        let sent = sent_at(board);
-        let kept = self.entries;
-        let silent = Entry {
-            calls: 0,
-            dna: 0,
-            crc_errors: 0,
-        };
-        match kind {
-            PassKind::Reprogramming => Crate {
-                board,
-                code,
-                tries: 0,
-                sent,
-                failed: [0; 10],
-                entries: kept,
-            },
-            PassKind::Ping => Crate {
-                board,
-                code,
-                tries: 0,
-                sent,
-                failed: [0; 10],
-                entries: [silent; 10],
-            },
+        self.failed = [0; 10];
+        self.sent = sent_at(board);
+        self.board = board;
+        self.code = first_code(kind);
+        self.tries = 0;
+        if clears_list(kind) {
+            self.dna = [0; 10];
+            self.calls = [0; 10];
+            self.crc_errors = [0; 10];
         }
+        self
     }
 
-    // The crate at another place; a frame is sent where the place is a board.
-    fn place(self, board: u8, code: u8, tries: u8) -> Crate
-        ensures { λ r. ⌜ r ≡ placed self board code tries ⌝ }
-    {
-        let mut next = self;
-        next.board = board;
-        next.code = code;
-        next.tries = tries;
-        let sent = self.sent;
-        if board < 10 {
-            if sent < 65535 {
-                next.sent = sent + 1;
-            }
-        }
-        next
-    }
-
-    // The crate at the first step of the next board that the pass serves.
-    fn advance(self, kind: PassKind, word: u16) -> Crate
-        requires { ⌜ self .board < 10 ⌝ }
-        ensures { λ r. ⌜ r ≡ advanced kind word self ⌝ }
-    {
-        let next = next_board(kind, word, self.board + 1);
-        let code = first_code(kind);
-        self.place(next, code, 0)
-    }
-
-    // The crate at its next step.
-    fn step(self, kind: PassKind, word: u16) -> Crate
-        requires { ⌜ self .board < 10 ⌝ }
-        ensures { λ r. ⌜ r ≡ stepped kind word self ⌝ }
-    {
-        let board = self.board;
-        let code = self.code;
-        if code < 3 {
-            self.place(board, code + 1, 0)
-        } else {
-            self.advance(kind, word)
-        }
-    }
-
-    // The crate with an entry for its board, where the outstanding frame is a ping.
-    fn note(self, heard: Heard) -> Crate
-        requires { ⌜ self .board < 10 ⌝ }
-        ensures { λ r. ⌜ r ≡ noted self heard ⌝ }
-    {
-        let at = self.board as usize;
-        let calls = calls_at(self.tries);
-        let mut next = self;
-        if self.code == 4 {
-            let entry = Entry {
-                calls,
-                dna: heard.dna,
-                crc_errors: heard.crc_errors,
-            };
-            next.entries[at] = entry;
-        }
-        next
-    }
-
-    // A good reply moves to the next step.
-    fn pass(self, kind: PassKind, word: u16, heard: Heard) -> Moved
-        requires { ⌜ self .board < 10 ⌝ }
-        ensures { λ r. ⌜ r ≡ passed kind word self heard ⌝ }
-    {
-        let noted = self.note(heard);
-        let next = noted.step(kind, word);
-        let done = next.is_done();
-        Moved {
-            outcome: Outcome::Good(done),
-            state: next,
-        }
-    }
-
-    // The board fails: the code of its step is kept, and its other steps are dropped.
-    fn fail(self, kind: PassKind, word: u16) -> Crate
-        requires { ⌜ self .board < 10 ⌝ }
-        ensures { λ r. ⌜ r ≡ advanced kind word (marked self) ⌝ }
-    {
-        let at = self.board as usize;
-        let code = self.code;
-        let mut marked = self;
-        marked.failed[at] = code;
-        marked.advance(kind, word)
-    }
-
-    // A bad reply or a time-up sends again, or the board fails.
-    fn miss(self, kind: PassKind, word: u16) -> Moved
-        requires { ⌜ self .board < 10 ⌝ }
-        ensures { λ r. ⌜ r ≡ missed kind word self ⌝ }
+    // What a reply or a time-up does to the crate, and what it gets. The crate is changed in place, in one function, so that it is not
+    // copied from step to step.
+    pub fn serve(mut self, kind: PassKind, word: u16, heard: Heard) -> CrateServed
+        ensures { λ r. ⌜ Serves kind word self heard r ⌝ }
     {
         let board = self.board;
         let code = self.code;
         let tries = self.tries;
-        if tries < 2 {
-            let again = self.place(board, code, tries + 1);
-            let done = again.is_done();
-            return Moved {
-                outcome: Outcome::Again(done),
-                state: again,
-            };
-        }
-        let next = self.fail(kind, word);
-        let done = next.is_done();
-        Moved {
-            outcome: Outcome::BoardFailed(done),
-            state: next,
-        }
-    }
-
-    // What a reply or a time-up does to the crate, and what it gets.
-    pub fn serve(self, kind: PassKind, word: u16, heard: Heard) -> CrateServed
-        ensures { λ r. ⌜ Serves kind word self heard r ⌝ }
-    {
-        if self.is_done() {
+        let sent = self.sent;
+        if 10 <= board {
             return CrateServed {
-                answer: ReplyAnswer::Refused(Refusal::NothingOutstanding),
                 state: self,
+                answer: ReplyAnswer::Refused(Refusal::NothingOutstanding),
             };
         }
-        let moved = if heard.good {
-            self.pass(kind, word, heard)
-        } else {
-            self.miss(kind, word)
-        };
-        let outcome = moved.outcome;
-        let state = moved.state;
+        let at = board as usize;
+        let to = place_after(kind, word, Place { board, code, tries }, heard.good);
+        let done = 10 <= to.board;
+        self.board = to.board;
+        self.code = to.code;
+        self.tries = to.tries;
+        self.sent = count_frame(to.board, sent);
+        if heard.good {
+            if code == 4 {
+                self.dna[at] = heard.dna;
+                self.calls[at] = calls_at(tries);
+                self.crc_errors[at] = heard.crc_errors;
+            }
+            return CrateServed {
+                state: self,
+                answer: ReplyAnswer::Served(Outcome::Good(done)),
+            };
+        }
+        if tries < 2 {
+            return CrateServed {
+                state: self,
+                answer: ReplyAnswer::Served(Outcome::Again(done)),
+            };
+        }
+        self.failed[at] = code;
         CrateServed {
-            answer: ReplyAnswer::Served(outcome),
-            state,
+            state: self,
+            answer: ReplyAnswer::Served(Outcome::BoardFailed(done)),
         }
     }
 }

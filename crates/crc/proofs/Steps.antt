@@ -1,5 +1,5 @@
--- The steps of one byte and of words in closed form. A computed test of all 256 bytes proves the first;
--- one of the 32 words of a single bit, with linearity, proves each of the others.
+-- The steps of one byte, of words and of six bytes in closed form. A computed test of all 256 bytes proves the first;
+-- one of the 32 words of a single bit, or of the 48 such numbers of six bytes, with linearity, proves each of the others.
 -- Assumes nothing.
 use Prim.Native.Nat.{ℕ, zero, suc, _+_, _-_, _*_, _/_, _%_, _^_, _≤_, _<_}
 use mathlib.Core.Path.{_≡_, refl, ap, ap₂, _∙_, sym}
@@ -102,12 +102,19 @@ spread-linear i j F G p q =
     (after G (λ (n : ℕ). n * 2 ^ i % 2 ^ 32) q (shl-linear i)))
     (after G (λ (n : ℕ). n * 2 ^ j % 2 ^ 32) q (shl-linear j))
 
+-- what is above the low k bits, folded in
+abbrev foldedAt : ℕ → ℕ → ℕ → ℕ → ℕ
+foldedAt k i j n = spread i j (n % 2 ^ k) (n / 2 ^ k)
+
+foldedAt-linear : (k i j : ℕ) → Linear (foldedAt k i j)
+foldedAt-linear k i j = spread-linear i j (λ (n : ℕ). n % 2 ^ k) (λ (n : ℕ). n / 2 ^ k) (low-linear k) (shr-linear k)
+
 -- as `crc_word` computes it
 abbrev pub foldedOnce : ℕ → ℕ
 foldedOnce w = spread 2 4 (w % 2 ^ 8 * 2 ^ 8 % 2 ^ 32) (w / 2 ^ 8)
 
 abbrev pub foldedTwice : ℕ → ℕ
-foldedTwice w = spread 2 4 (foldedOnce w % 2 ^ 16) (foldedOnce w / 2 ^ 16)
+foldedTwice w = foldedAt 16 2 4 (foldedOnce w)
 
 abbrev wordCrc : ℕ → ℕ
 wordCrc w = bitXor (crc (foldedTwice w / 2 ^ 8 % 2 ^ 8 ∷ [])) (foldedTwice w % 2 ^ 8)
@@ -119,10 +126,7 @@ once-linear =
     (shr-linear 8)
 
 twice-linear : Linear foldedTwice
-twice-linear =
-    spread-linear 2 4 (λ (w : ℕ). foldedOnce w % 2 ^ 16) (λ (w : ℕ). foldedOnce w / 2 ^ 16)
-    (after foldedOnce (λ (w : ℕ). w % 2 ^ 16) once-linear (low-linear 16))
-    (after foldedOnce (λ (w : ℕ). w / 2 ^ 16) once-linear (shr-linear 16))
+twice-linear = after foldedOnce (foldedAt 16 2 4) once-linear (foldedAt-linear 16 2 4)
 
 wordCrc-linear : Linear wordCrc
 wordCrc-linear =
@@ -202,6 +206,70 @@ word-of a b c d ha hb hc hd =
     let ec : w / 256 % 256 ≡ c = omega arith in
     let ed : w % 256 ≡ d = omega arith in
     rw (ea, eb, ec, ed)
+
+-- as `crc_of_six` computes it, of the six bytes as one number: all from x^32 on is folded in, then the rest
+abbrev sixOnce : ℕ → ℕ
+sixOnce m = spread 4 8 (m % 2 ^ 24 * 2 ^ 8) (m / 2 ^ 24)
+
+abbrev sixLast : ℕ → ℕ
+sixLast n = spread 1 2 n (n / 2 ^ 8) % 2 ^ 8
+
+abbrev sixRest : ℕ → ℕ
+sixRest n = sixLast (foldedAt 8 1 2 (foldedAt 16 2 4 n))
+
+sixOnce-linear : Linear sixOnce
+sixOnce-linear =
+    spread-linear 4 8 (λ (m : ℕ). m % 2 ^ 24 * 2 ^ 8) (λ (m : ℕ). m / 2 ^ 24)
+    (after (λ (m : ℕ). m % 2 ^ 24) (λ (m : ℕ). m * 2 ^ 8) (low-linear 24) (up 8))
+    (shr-linear 24)
+
+sixLast-linear : Linear sixLast
+sixLast-linear =
+    after (λ (n : ℕ). spread 1 2 n (n / 2 ^ 8)) (λ (n : ℕ). n % 2 ^ 8)
+    (spread-linear 1 2 (λ (n : ℕ). n) (λ (n : ℕ). n / 2 ^ 8) (λ a b. refl) (shr-linear 8))
+    (low-linear 8)
+
+sixRest-linear : Linear sixRest
+sixRest-linear =
+    after (λ (n : ℕ). foldedAt 8 1 2 (foldedAt 16 2 4 n)) sixLast
+    (after (foldedAt 16 2 4) (foldedAt 8 1 2) (foldedAt-linear 16 2 4) (foldedAt-linear 8 1 2))
+    sixLast-linear
+
+-- the CRC of the number's bytes
+abbrev crcSix : ℕ → ℕ
+crcSix m = crcByte (crcByte (crcWord (m / 2 ^ 16)) (m / 2 ^ 8 % 2 ^ 8)) (m % 2 ^ 8)
+
+crcSix-linear : Linear crcSix
+crcSix-linear =
+    register (λ (m : ℕ). crcByte (crcWord (m / 2 ^ 16)) (m / 2 ^ 8 % 2 ^ 8)) (λ (m : ℕ). m % 2 ^ 8)
+    (register (λ (m : ℕ). crcWord (m / 2 ^ 16)) (λ (m : ℕ). m / 2 ^ 8 % 2 ^ 8)
+    (after (λ (m : ℕ). m / 2 ^ 16) crcWord (shr-linear 16) word-linear)
+    (byte-linear 8))
+    (low-linear 8)
+
+sixRight : ℕ → Bool
+unfolding crcWord crcByte
+sixRight j = eqb (sixRest (sixOnce (2 ^ j))) (crcSix (2 ^ j))
+
+six-crc : (m : ℕ) → m < 2 ^ 48 → sixRest (sixOnce m) ≡ crcSix m
+unfolding sixRight crcWord crcByte
+six-crc =
+    agree (λ (m : ℕ). sixRest (sixOnce m)) crcSix (after sixOnce sixRest sixOnce-linear sixRest-linear) crcSix-linear refl 48
+    (λ j h. eqb→eq (sixRest (sixOnce (2 ^ j))) (crcSix (2 ^ j)) (below sixRight 48 tt j h))
+
+pub six-of : (a b c d e f : ℕ) → a < 256 → b < 256 → c < 256 → d < 256 → e < 256 → f < 256
+    → sixRest (spread 4 8 (d * 16777216 + e * 65536 + f * 256) (a * 65536 + b * 256 + c)) ≡ crc (a ∷ b ∷ c ∷ d ∷ e ∷ f ∷ [])
+six-of a b c d e f ha hb hc hd he hf =
+    let w = a * 16777216 + b * 65536 + c * 256 + d in
+    let m = w * 65536 + e * 256 + f in
+    let ee : m / 256 % 256 ≡ e = omega arith in
+    let ew : m / 65536 ≡ w = omega arith in
+    let ef : m % 256 ≡ f = omega arith in
+    let top : m / 16777216 ≡ a * 65536 + b * 256 + c = omega arith in
+    let low : m % 16777216 * 256 ≡ d * 16777216 + e * 65536 + f * 256 = omega arith in
+    ap₂ (λ (l t : ℕ). sixRest (spread 4 8 l t)) (sym low) (sym top)
+    ∙ six-crc m (omega arith)
+    ∙ ap₂ crcByte (ap₂ crcByte (ap crcWord ew ∙ word-of a b c d ha hb hc hd) ee) ef
 
 -- the CRC goes on over bytes: the word as many bytes on is added to theirs
 zeros-added : (bs : List ℕ) → xors (replicate (length bs) 0) bs ≡ bs

@@ -74,3 +74,19 @@ pub fn crc8(bytes: &[u8]) -> u8
     }
     crc_word(rest_on(word, bytes, i))
 }
+
+// The CRC of six bytes, as a trigger packet has them: with a byte of 0 after them, all from x^32 on is folded in, then all from x^16,
+// and twice all from x^8, as x^32 is x^8 + x^4 + 1, x^16 is x^4 + x^2 + 1 and x^8 is x^2 + x + 1.
+pub fn crc_of_six(a: u8, b: u8, c: u8, d: u8, e: u8, f: u8) -> u8
+    ensures { λ r. ⌜ r ≡ crc (a ∷ b ∷ c ∷ d ∷ e ∷ f ∷ []) ⌝ }
+{
+    let top = (a as u32) * 65536 + (b as u32) * 256 + (c as u32);
+    let low = (d as u32) * 16777216 + (e as u32) * 65536 + (f as u32) * 256;
+    let once = low ^ top ^ (top << 4) ^ (top << 8);
+    let second = once >> 16;
+    let twice = (once % 65536) ^ second ^ (second << 2) ^ (second << 4);
+    let third = twice >> 8;
+    let thrice = (twice % 256) ^ third ^ (third << 1) ^ (third << 2);
+    let last = thrice >> 8;
+    ((thrice ^ last ^ (last << 1) ^ (last << 2)) % 256) as u8
+}

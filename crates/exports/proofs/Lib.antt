@@ -1,6 +1,8 @@
 -- Laws that belong to no one function.
 pub mod Packets
 pub mod Replies
+pub mod TimeUps
+pub mod Clock
 pub mod Triggers
-pub mod Obeyed
+pub mod Commands
 pub mod Static

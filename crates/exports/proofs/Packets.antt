@@ -2,28 +2,33 @@
 -- Assumes nothing.
 use Prim.Native.Nat.{ℕ, suc, _+_, _*_, _-_, _<_, _≤_}
 use native.Mathlib.Nat.{zero-add, sub-zero}
+use native.Mathlib.Numerals.{add-one}
 use native.Mathlib.Omega.{arith}
 use mathlib.Core.Path.{_≡_, ap, _∙_}
-use mathlib.Core.List.{List}
-use lib.ListN.{take, drop}
-use lib.Seq.{drop-drop}
+use mathlib.Core.List.{List, _∷_}
+use lib.ListN.{length, getD, take, drop}
+use lib.Seq.{drop-drop, drop-cons}
 use Rattle.packets.specs.Packets.{packetAnswer}
-use Rattle.exports.specs.Exports.{goodPacket, goodFrom}
+use Rattle.exports.specs.Exports.{isGiven, goodFrom}
 
 -- i parts of a size, and one more
 pub past : (size i : ℕ) (l : List ℕ) → drop size (drop (size * i) l) ≡ drop (size * (i + 1)) l
 past size i l = let e : size * i + size ≡ size * (i + 1) = omega arith in drop-drop size (size * i) l ∙ ap (λ (k : ℕ). drop k l) e
+
+-- the element that is next, and those after it
+pub next-of : (l : List ℕ) (i : ℕ) → i < length l → drop i l ≡ getD l i 0 ∷ drop (i + 1) l
+next-of l i h = rw (add-one, drop-cons l i 0)
 
 pub one-left : (n i : ℕ) → i < n → n - i ≡ suc (n - (i + 1))
 one-left n i h = omega arith
 
 pub packet-next : (n i : ℕ) (bytes : List ℕ) → i < n
     → goodFrom (n - i) (drop (7 * i) bytes)
-    ≡ goodPacket (packetAnswer (take 7 (drop (7 * i) bytes))) + goodFrom (n - (i + 1)) (drop (7 * (i + 1)) bytes)
+    ≡ isGiven (packetAnswer (take 7 (drop (7 * i) bytes))) + goodFrom (n - (i + 1)) (drop (7 * (i + 1)) bytes)
 unfolding goodFrom
 packet-next n i bytes h =
     ap (λ (k : ℕ). goodFrom k (drop (7 * i) bytes)) (one-left n i h)
-    ∙ ap (λ (l : List ℕ). goodPacket (packetAnswer (take 7 (drop (7 * i) bytes))) + goodFrom (n - (i + 1)) l) (past 7 i bytes)
+    ∙ ap (λ (l : List ℕ). isGiven (packetAnswer (take 7 (drop (7 * i) bytes))) + goodFrom (n - (i + 1)) l) (past 7 i bytes)
 
 -- ---- the loop: `good` of the first i packets of n are good
 
@@ -31,10 +36,10 @@ pub packet-start : (n : ℕ) (bytes : List ℕ) → 0 + goodFrom (n - 0) bytes �
 packet-start n bytes = zero-add (goodFrom (n - 0) bytes) ∙ ap (λ (k : ℕ). goodFrom k bytes) (sub-zero n)
 
 module _ (bytes : List ℕ) (n i good : ℕ) (inv : good + goodFrom (n - i) (drop (7 * i) bytes) ≡ goodFrom n bytes) where
-  pub packet-turn : (g k : ℕ) → i < n → k ≡ 7 → g ≡ goodPacket (packetAnswer (take k (drop (7 * i) bytes)))
+  pub packet-turn : (g k : ℕ) → i < n → k ≡ 7 → g ≡ isGiven (packetAnswer (take k (drop (7 * i) bytes)))
       → good + g + goodFrom (n - (i + 1)) (drop (7 * (i + 1)) bytes) ≡ goodFrom n bytes
   packet-turn g k l ek e =
-      let p : g ≡ goodPacket (packetAnswer (take 7 (drop (7 * i) bytes))) = e ∙ ap (λ (j : ℕ). goodPacket (packetAnswer (take j (drop (7 * i) bytes)))) ek in
+      let p : g ≡ isGiven (packetAnswer (take 7 (drop (7 * i) bytes))) = e ∙ ap (λ (j : ℕ). isGiven (packetAnswer (take j (drop (7 * i) bytes)))) ek in
       let q = packet-next n i bytes l in
       omega arith
 

@@ -49,7 +49,8 @@ module _ (block stored out : List ℕ) (es : stored ≡ copied block (replicate 
         answer = q ∙ ap (λ (a : Answer ℕ). readAgain a (staticOf block)) (sym (ap writtenOnPaper e) ∙ wrote-static .answer);
       }
 
-  pub static-read : (n : ℕ) → w ≡ Length n → (b : BlockRead) → readOnPaper b ≡ blockAnswer Static (take n after) → r ≡ answerNumber (readOnPaper b) → StaticRound block out r after
+  pub static-read : (n : ℕ) → w ≡ Length n → (b : BlockRead) → readOnPaper b ≡ blockAnswer Static (take n after)
+      → r ≡ answerNumber (readOnPaper b) → StaticRound block out r after
   static-read n e b told q =
       let front : take n after ≡ staticOf block = wrote-front [] (staticOf block) out n after (rw e at wrote-static) in
       record {

@@ -1,8 +1,8 @@
--- Triggers one after another.
+-- Triggers one after another, each on the whole board.
 -- Assumes nothing.
 use Prim.Native.Nat.{ℕ, suc, _+_, _*_, _-_, _/_, _<_, _≤_}
 use native.Mathlib.Omega.{arith}
-use mathlib.Core.Path.{_≡_, refl, sym, ap, _∙_}
+use mathlib.Core.Path.{_≡_, refl, sym, ap, ap₂, _∙_}
 use mathlib.Core.Bool.{cond}
 use mathlib.Core.List.{List, [], _∷_, _++_, append-nil, append-assoc}
 use lib.ListN.{length, take, drop, length-append, length-drop, take-append-drop, drop-of-length-le}
@@ -13,9 +13,12 @@ use Rattle.refusals.specs.Writing.{writing, writtenOnPaper, laid}
 use Rattle.refusals.specs.declared.Refusal.{Refusal}
 use Rattle.refusals.specs.declared.Written.the-variants.{Length, Refused}
 use Rattle.packets.specs.Packets.{plain, packetBytes}
-use Rattle.run.specs.Run.{triggerNumber, triggerRules, triggerAnswer, afterTrigger, afterAnswer, Triggers}
+use Rattle.run.specs.Run.{triggerNumber, triggerRules, triggerAnswer, afterTrigger, afterAnswer}
 use Rattle.run.specs.declared.Run.{Run}
-use Rattle.run.specs.declared.Triggered.{Triggered}
+use Rattle.board.specs.State.{withRun}
+use Rattle.board.specs.Commands.{TriggersOn}
+use Rattle.board.specs.declared.Board.{Board}
+use Rattle.board.specs.declared.TriggeredOn.{TriggeredOn}
 use Rattle.exports.specs.Exports.{four, packetThen, packetsOf, GivesTriggers}
 use Rattle.exports.proofs.Packets.{past, one-left}
 use Rattle.words.proofs.Laws.{part-rest}
@@ -34,7 +37,14 @@ room : (r : Run) (out : List ℕ) → 7 ≤ length out → triggerAnswer r four 
 unfolding writing plain
 room r out h = rows-before (triggerRules r four) _ 7 (rw (le-ltb _ _ h) refl)
 
-module _ (r : Run) (m : ℕ) (out : List ℕ) (t : Triggered) (after : List ℕ) (s : Triggers r four out t after) (h : 7 ≤ length out) where
+module _ (β : Board) (m : ℕ) (out : List ℕ) (t : TriggeredOn) (after : List ℕ) (s : TriggersOn β four out t after) (h : 7 ≤ length out) where
+  abbrev r : Run
+  r = β .run
+
+  run-after : t .board .run ≡ afterAnswer r (triggerAnswer r four out)
+  unfolding withRun
+  run-after = ap (λ (b : Board). b .run) (s .board)
+
   told : lowest (triggerRules r four) 7 ≡ writtenOnPaper (t .answer)
   told = sym (room r out h) ∙ sym (s .packet .answer)
 
@@ -45,11 +55,11 @@ module _ (r : Run) (m : ℕ) (out : List ℕ) (t : Triggered) (after : List ℕ)
     answered : triggerAnswer r four out ≡ given k
     answered = sym (s .packet .answer) ∙ ap writtenOnPaper e
 
-    pub given-packets : packetsOf (suc m) r ≡ packet ++ packetsOf m (t .run)
+    pub given-packets : packetsOf (suc m) r ≡ packet ++ packetsOf m (t .board .run)
     unfolding packetsOf
     given-packets =
         ap (λ (a : Answer ℕ). packetThen a packet (packetsOf m (afterTrigger r))) (told ∙ ap writtenOnPaper e)
-        ∙ ap (λ (q : Run). packet ++ packetsOf m q) (sym (s .run ∙ ap (afterAnswer r) answered))
+        ∙ ap (λ (q : Run). packet ++ packetsOf m q) (sym (run-after ∙ ap (afterAnswer r) answered))
 
     pub given-output : after ≡ packet ++ drop 7 out
     given-output = s .packet .output ∙ ap (λ (a : Answer ℕ). laid a packet out) answered ∙ ap (λ (n : ℕ). packet ++ drop n out) (packet-size r)
@@ -98,11 +108,12 @@ pub record TriggersSoFar (first : Run) (n i : ℕ) (out₀ out : List ℕ) (r : 
   pub all : packetsOf n first ≡ take (7 * i) out ++ packetsOf (n - i) r
   pub rest : drop (7 * i) out ≡ drop (7 * i) out₀
 
-pub none-given : (first : Run) (n : ℕ) (out : List ℕ) → TriggersSoFar first n 0 out out first
-none-given first n out = record { same = refl; all = ap (λ (k : ℕ). packetsOf k first) (let e : n ≡ n - 0 = omega arith in e); rest = refl }
+pub none-given : (first r : Run) (n : ℕ) (out : List ℕ) → r ≡ first → TriggersSoFar first n 0 out out r
+none-given first r n out q = record { same = refl; all = ap₂ packetsOf (let e : n ≡ n - 0 = omega arith in e) (sym q); rest = refl }
 
 -- and no more are
-all-given : (first : Run) (n i : ℕ) (out₀ out : List ℕ) (r : Run) → TriggersSoFar first n i out₀ out r → n ≡ length out₀ / 7 → i ≤ n → packetsOf (n - i) r ≡ [] → GivesTriggers first out₀ i out
+all-given : (first : Run) (n i : ℕ) (out₀ out : List ℕ) (r : Run) → TriggersSoFar first n i out₀ out r → n ≡ length out₀ / 7 → i ≤ n
+    → packetsOf (n - i) r ≡ [] → GivesTriggers first out₀ i out
 all-given first n i out₀ out r g en m e =
     let same = g .same in
     let all : packetsOf (length out₀ / 7) first ≡ take (7 * i) out =
@@ -117,46 +128,54 @@ all-given first n i out₀ out r g en m e =
           ∙ ap (λ (l : List ℕ). l ++ drop (length (packetsOf (length out₀ / 7) first)) out₀) (sym all);
     }
 
-pub at-end : (first : Run) (n i : ℕ) (out₀ out : List ℕ) (r : Run) → TriggersSoFar first n i out₀ out r → n ≡ length out₀ / 7 → i ≤ n → n ≤ i → GivesTriggers first out₀ i out
+pub at-end : (first : Run) (n i : ℕ) (out₀ out : List ℕ) (r : Run) → TriggersSoFar first n i out₀ out r → n ≡ length out₀ / 7 → i ≤ n
+    → n ≤ i → GivesTriggers first out₀ i out
 unfolding packetsOf
 at-end first n i out₀ out r g en l m = all-given first n i out₀ out r g en l (ap (λ (k : ℕ). packetsOf k r) (let e : n - i ≡ 0 = omega arith in e))
 
-module _ (first : Run) (n i : ℕ) (out₀ out : List ℕ) (r : Run) (g : TriggersSoFar first n i out₀ out r) (en : n ≡ length out₀ / 7) (l : i < n)
-    (t : Triggered) (after : List ℕ) (s : Triggers r four (take (length out - 7 * i) (drop (7 * i) out)) t after) where
+module _ (first : Run) (n i : ℕ) (out₀ out : List ℕ) (β : Board) (g : TriggersSoFar first n i out₀ out (β .run)) (en : n ≡ length out₀ / 7) (l : i < n)
+    (t : TriggeredOn) (after : List ℕ) (s : TriggersOn β four (take (length out - 7 * i) (drop (7 * i) out)) t after) where
   abbrev part : List ℕ
   part = drop (7 * i) out
 
-  served : Triggers r four part t after
+  served : TriggersOn β four part t after
   served = rw (part-rest out (7 * i)) at s
 
   room-left : 7 ≤ length part
   room-left = let same = g .same in rw length-drop (omega arith)
 
-  pub one-given : (k : ℕ) → t .answer ≡ Length k → TriggersSoFar first n (i + 1) out₀ (take (7 * i) out ++ (after ++ drop (length out - 7 * i) part)) (t .run)
+  -- `out` once the part is back
+  abbrev changed : List ℕ
+  changed = take (7 * i) out ++ (after ++ drop (length out - 7 * i) part)
+
+  pub one-given : (k : ℕ) → t .answer ≡ Length k → TriggersSoFar first n (i + 1) out₀ changed (t .board .run)
   one-given k e =
       let same = g .same in
-      let p = packetBytes (triggerNumber r) four in
-      let size : 7 * i + length p ≡ 7 * (i + 1) = ap (λ (m : ℕ). 7 * i + m) (packet-size r) ∙ (let q : 7 * i + 7 ≡ 7 * (i + 1) = omega arith in q) in
+      let p = packetBytes (triggerNumber (β .run)) four in
+      let size : 7 * i + length p ≡ 7 * (i + 1) = ap (λ (m : ℕ). 7 * i + m) (packet-size (β .run)) ∙ (let q : 7 * i + 7 ≡ 7 * (i + 1) = omega arith in q) in
       let fits : 7 * (i + 1) ≤ length out = omega arith in
-      let whole : take (7 * i) out ++ (after ++ drop (length out - 7 * i) part) ≡ put out p (7 * i) (7 * (i + 1)) size fits =
+      let whole : changed ≡ put out p (7 * i) (7 * (i + 1)) size fits =
       back out after (7 * i)
-      ∙ ap (λ (x : List ℕ). take (7 * i) out ++ x) (given-output r (n - (i + 1)) part t after served room-left k e)
+      ∙ ap (λ (x : List ℕ). take (7 * i) out ++ x) (given-output β (n - (i + 1)) part t after served room-left k e)
       ∙ ap (λ (x : List ℕ). take (7 * i) out ++ (p ++ x)) (past 7 i out) in
+      let front : take (7 * (i + 1)) changed ≡ take (7 * i) out ++ p = ap (take (7 * (i + 1))) whole ∙ put-take out p (7 * i) (7 * (i + 1)) size fits in
       record {
         same = ap length whole ∙ put-length out p (7 * i) (7 * (i + 1)) size fits ∙ same;
         all =
             g .all
-            ∙ ap (λ (m : ℕ). take (7 * i) out ++ packetsOf m r) (one-left n i l)
-            ∙ ap (λ (x : List ℕ). take (7 * i) out ++ x) (given-packets r (n - (i + 1)) part t after served room-left k e)
-            ∙ sym (append-assoc (take (7 * i) out) p (packetsOf (n - (i + 1)) (t .run)))
-            ∙ ap (λ (x : List ℕ). x ++ packetsOf (n - (i + 1)) (t .run)) (sym (ap (take (7 * (i + 1))) whole ∙ put-take out p (7 * i) (7 * (i + 1)) size fits));
+            ∙ ap (λ (m : ℕ). take (7 * i) out ++ packetsOf m (β .run)) (one-left n i l)
+            ∙ ap (λ (x : List ℕ). take (7 * i) out ++ x) (given-packets β (n - (i + 1)) part t after served room-left k e)
+            ∙ sym (append-assoc (take (7 * i) out) p (packetsOf (n - (i + 1)) (t .board .run)))
+            ∙ ap (λ (x : List ℕ). x ++ packetsOf (n - (i + 1)) (t .board .run)) (sym front);
         rest = ap (drop (7 * (i + 1))) whole ∙ put-drop out p (7 * i) (7 * (i + 1)) size fits ∙ sym (past 7 i out) ∙ ap (drop 7) (g .rest) ∙ past 7 i out₀;
       }
 
-  pub one-refused : (f : Refusal) → t .answer ≡ Refused f → GivesTriggers first out₀ i (take (7 * i) out ++ (after ++ drop (length out - 7 * i) part))
+  pub one-refused : (f : Refusal) → t .answer ≡ Refused f → GivesTriggers first out₀ i changed
   one-refused f e =
-      let whole : take (7 * i) out ++ (after ++ drop (length out - 7 * i) part) ≡ out =
+      let whole : changed ≡ out =
       back out after (7 * i)
-      ∙ ap (λ (x : List ℕ). take (7 * i) out ++ x) (refused-output r (n - (i + 1)) part t after served room-left f e)
+      ∙ ap (λ (x : List ℕ). take (7 * i) out ++ x) (refused-output β (n - (i + 1)) part t after served room-left f e)
       ∙ take-append-drop (7 * i) out in
-      rw whole (all-given first n i out₀ out r g en (omega arith) (ap (λ (m : ℕ). packetsOf m r) (one-left n i l) ∙ refused-packets r (n - (i + 1)) part t after served room-left f e))
+      let none : packetsOf (n - i) (β .run) ≡ [] =
+      ap (λ (m : ℕ). packetsOf m (β .run)) (one-left n i l) ∙ refused-packets β (n - (i + 1)) part t after served room-left f e in
+      rw whole (all-given first n i out₀ out (β .run) g en (omega arith) none)

@@ -14,16 +14,14 @@ use Rattle.blocks.specs.declared.Header.{Header}
 use Rattle.block_reader.specs.Reading.{blockAnswer}
 use Rattle.block_reader.specs.declared.Kind.the-variants.{Static}
 use Rattle.command_reader.specs.Reading.{commandAnswer, usedOf}
-use Rattle.steps.specs.Steps.{heardIn}
+use Rattle.steps.specs.Steps.{heardIn, silence}
 use Rattle.steps.specs.declared.Heard.{Heard}
-use Rattle.run.specs.Run.{triggerNumber, triggerRules, afterTrigger}
+use Rattle.run.specs.Run.{clockedRun, triggerNumber, triggerRules, afterTrigger}
 use Rattle.run.specs.declared.Run.{Run}
-use Rattle.crate_pass.specs.declared.PassKind.{PassKind}
-use Rattle.crate_pass.specs.declared.Crate.{Crate}
 use Rattle.crate_pass.specs.declared.Outcome.{Outcome}
 use Rattle.crate_pass.specs.declared.Outcome.the-variants.{Good, Again, BoardFailed}
-use Rattle.board.specs.State.{freshBoard}
-use Rattle.board.specs.Commands.{boardAfter}
+use Rattle.board.specs.State.{freshBoard, withRun}
+use Rattle.board.specs.Commands.{boardAnswer, boardAfter}
 use Rattle.board.specs.SlowControl.{frameAt, replyAnswer, boardReplied}
 use Rattle.board.specs.declared.Board.{Board}
 
@@ -32,9 +30,37 @@ abbrev pub answerNumber : {A : Type 0} → Answer A → ℕ
 answerNumber (given a) = 0
 answerNumber (refused n p) = n
 
+-- 1 for an answer that is given, 0 for a refusal
+abbrev pub isGiven : {A : Type 0} → Answer A → ℕ
+isGiven (given a) = 1
+isGiven (refused n p) = 0
+
 -- what reading a command gives
 unfoldable pub commandGiven : List ℕ → ℕ
 commandGiven w = answerNumber (commandAnswer w)
+
+-- ---- commands one after another: each is the first of the words that those before it left
+
+-- the words after the first command: where they refuse it, it uses none
+abbrev pub wordsAfter : List ℕ → List ℕ
+wordsAfter w = drop (usedOf (commandAnswer w)) w
+
+-- the board after n commands
+unfoldable pub afterCommands : ℕ → Board → List ℕ → Board
+afterCommands zero β w = β
+afterCommands (suc n) β w = afterCommands n (boardAfter β w) (wordsAfter w)
+
+-- how many of n commands are accepted
+unfoldable pub acceptedOf : ℕ → Board → List ℕ → ℕ
+acceptedOf zero β w = 0
+acceptedOf (suc n) β w = isGiven (boardAnswer β w) + acceptedOf n (boardAfter β w) (wordsAfter w)
+
+-- a fresh board after one command, and after two
+abbrev pub afterOne : List ℕ → Board
+afterOne w = afterCommands 1 (freshBoard 0 0) w
+
+abbrev pub afterTwo : List ℕ → Board
+afterTwo w = afterCommands 2 (freshBoard 0 0) w
 
 -- ---- a pass
 
@@ -55,16 +81,21 @@ goodOf (suc n) β items =
     goodOutcome (replyAnswer β (getD items 0 0) (heardFirst β items))
     + goodOf n (boardReplied β (getD items 0 0) (heardFirst β items)) (drop 29 items)
 
--- the board β with a block, the kind of a pass and crates: a pass goes by no other part of it
-unfoldable pub holding : Board → List ℕ → PassKind → List Crate → Board
-holding β block kind cs = record { identity = β .identity; run = β .run; block = block; kind = kind; active = β .active; crates = cs }
-
--- r of the items get a good answer, on any board that has the block, the kind and the crates
-abbrev pub CountsGood : List ℕ → PassKind → List Crate → List ℕ → ℕ → Type 0
-CountsGood block kind cs items r = (β : Board) → r ≡ goodOf (length items / 29) (holding β block kind cs) items
-
+-- how many of the items get a good answer, after the first command of the words
 unfoldable pub passOf : List ℕ → List ℕ → ℕ
-passOf w items = goodOf (length items / 29) (boardAfter (freshBoard 0 0) w) items
+passOf w items = goodOf (length items / 29) (afterOne w) items
+
+-- how many time-ups are served, one after another on these crates
+unfoldable pub servedOf : Board → List ℕ → ℕ
+servedOf β [] = 0
+servedOf β (i ∷ is) = isGiven (replyAnswer β i silence) + servedOf (boardReplied β i silence) is
+
+-- ---- clock steps
+
+-- the board after clock steps of so many ticks each
+unfoldable pub clockedAll : Board → List ℕ → Board
+clockedAll β [] = β
+clockedAll β (t ∷ ts) = clockedAll (withRun β (clockedRun (β .run) t)) ts
 
 -- ---- triggers
 
@@ -89,19 +120,11 @@ pub record GivesTriggers (r : Run) (out : List ℕ) (count : ℕ) (after : List 
   pub number : count ≡ length (packetsOf (length out / 7) r) / 7
   pub packets : after ≡ packetsOf (length out / 7) r ++ drop (length (packetsOf (length out / 7) r)) out
 
--- the board after two commands
-abbrev pub afterTwo : List ℕ → Board
-afterTwo w = boardAfter (boardAfter (freshBoard 0 0) w) (drop (usedOf (commandAnswer w)) w)
-
 -- ---- packets read
-
-abbrev pub goodPacket : {A : Type 0} → Answer A → ℕ
-goodPacket (given a) = 1
-goodPacket (refused n p) = 0
 
 unfoldable pub goodFrom : ℕ → List ℕ → ℕ
 goodFrom zero bytes = 0
-goodFrom (suc n) bytes = goodPacket (packetAnswer (take 7 bytes)) + goodFrom n (drop 7 bytes)
+goodFrom (suc n) bytes = isGiven (packetAnswer (take 7 bytes)) + goodFrom n (drop 7 bytes)
 
 unfoldable pub goodPackets : List ℕ → ℕ
 goodPackets bytes = goodFrom (length bytes / 7) bytes

@@ -1,15 +1,21 @@
-// Functions for programs in C or Rust, over numbers and slices. Long series work on the part of the state that they change.
+// Functions for programs in C or Rust, over numbers and slices: each makes a fresh board of its own where it needs one.
 ghost use mathlib.Core.Path.{_≡_};
 ghost use Prim.Native.Nat.{_≤_};
 ghost use Rattle.crc.specs.Crc.{crc};
 ghost use Rattle.packets.specs.Packets.{packetAnswer};
 ghost use Rattle.crate_pass.specs.Crate.{replyOnPaper};
-ghost use Rattle.exports.specs.Exports.{commandGiven, goodOutcome, CountsGood, passOf, afterTwo, GivesTriggers, goodPacket, goodPackets, StaticRound};
+ghost use Rattle.acceptance.specs.Acceptance.{answerOnPaper};
+ghost use Rattle.board.specs.State.{freshBoard};
+ghost use Rattle.exports.specs.Exports.{isGiven, commandGiven, acceptedOf, afterOne, afterTwo, goodOutcome, passOf, servedOf, clockedAll};
+ghost use Rattle.exports.specs.Exports.{GivesTriggers, goodPackets, StaticRound};
+ghost use Rattle.exports.specs.Parts.{CountsGood, ObeysAll};
+use acceptance::CommandAnswer;
 use block_reader::BlockRead;
 use block_reader::Kind;
 use block_reader::read_block;
 use blocks::Header;
 use blocks::write_static;
+use board::Board;
 use board::power_up;
 use command_reader::CommandRead;
 use command_reader::read_command;
@@ -23,7 +29,6 @@ use packets::Fields;
 use packets::PacketRead;
 use packets::read_packet;
 use refusals::Written;
-use run::Run;
 use steps::hear_step;
 use words::copy_words;
 
@@ -44,6 +49,52 @@ pub extern "C" fn ftm_read_command(words: &[u16]) -> u8
         CommandRead::Accepted(_, _) => 0,
         CommandRead::Refused(r) => r.number(),
     }
+}
+
+// Whether a command is accepted: 1, else 0.
+fn accepted_count(answer: CommandAnswer) -> u64
+    ensures { λ r. ⌜ (r ≡ isGiven (answerOnPaper answer)) × (r ≤ 1) ⌝ }
+{
+    match answer {
+        CommandAnswer::Obeyed(_) => 1,
+        CommandAnswer::Refused(_) => 0,
+    }
+}
+
+// A board after commands, and how many of them were accepted.
+struct AfterCommands {
+    board: Board,
+    accepted: u64,
+}
+
+// A fresh board obeys `count` commands of the words, one after another.
+fn obeyed(words: &[u16], count: u64) -> AfterCommands
+    ensures { λ r. ⌜ ObeysAll count (now (words .entry)) r ⌝ }
+{
+    let up = power_up(0, 0);
+    let mut board = up.board;
+    let mut accepted = 0;
+    let mut at = 0;
+    let mut i = 0;
+    while i < count {
+        let done = board.obey(&words[at..]);
+        let answer = done.answer;
+        let next = done.board;
+        at += done.used;
+        accepted += accepted_count(answer);
+        board = next;
+        i += 1;
+    }
+    AfterCommands { board, accepted }
+}
+
+// On a fresh board: how many of `count` commands of the words, one after another, are accepted.
+#[no_mangle]
+pub extern "C" fn ftm_commands(words: &[u16], count: u64) -> u64
+    ensures { λ r. ⌜ r ≡ acceptedOf count (freshBoard 0 0) (now (words .entry)) ⌝ }
+{
+    let done = obeyed(words, count);
+    done.accepted
 }
 
 // Whether an answer is good: 1, else 0.
@@ -87,14 +138,12 @@ fn good_replies(first: [Crate; 4], block: &[u16], kind: PassKind, items: &[u8]) 
 }
 
 // On a fresh board: obeys the first command of the words, then serves the items, 29 bytes each, a crate's number and a reply of 28
-// bytes. How many replies were good.
+// bytes. How many replies were good. (On the crates alone.)
 #[no_mangle]
 pub extern "C" fn ftm_pass(words: &[u16], items: &[u8]) -> u64
     ensures { λ r. ⌜ r ≡ passOf (now (words .entry)) (now (items .entry)) ⌝ }
 {
-    let up = power_up(0, 0);
-    let fresh = up.board;
-    let done = fresh.obey(words);
+    let done = obeyed(words, 1);
     let board = done.board;
     let crates = board.crates;
     let block = board.block;
@@ -102,9 +151,78 @@ pub extern "C" fn ftm_pass(words: &[u16], items: &[u8]) -> u64
     good_replies(crates, &block, kind, items)
 }
 
-// Triggers of n = 4 until the lent bytes have no room for one more packet, or one is refused. How many were given.
-fn trigger_all(first: Run, out: &mut [u8]) -> u64
-    ensures { λ r. ⌜ GivesTriggers first (now (out .entry)) r (now (out .exit)) ⌝ }
+// The same, each item by a call on the whole board.
+#[no_mangle]
+pub extern "C" fn ftm_replies(words: &[u16], items: &[u8]) -> u64
+    ensures { λ r. ⌜ r ≡ passOf (now (words .entry)) (now (items .entry)) ⌝ }
+{
+    let done = obeyed(words, 1);
+    let mut board = done.board;
+    let mut good = 0;
+    let n = items.len() / 29;
+    let mut i = 0;
+    while i < n {
+        let replied = board.reply(items[29 * i], &items[29 * i + 1..29 * i + 29]);
+        let answer = replied.answer;
+        let next = replied.board;
+        good += good_count(answer);
+        board = next;
+        i += 1;
+    }
+    good
+}
+
+// Whether a time-up is served: 1, else 0.
+fn served_count(answer: ReplyAnswer) -> u64
+    ensures { λ r. ⌜ (r ≡ isGiven (replyOnPaper answer)) × (r ≤ 1) ⌝ }
+{
+    match answer {
+        ReplyAnswer::Served(_) => 1,
+        ReplyAnswer::Refused(_) => 0,
+    }
+}
+
+// On a fresh board: obeys the first command of the words, then a time-up on each of the crates in turn. How many were served.
+#[no_mangle]
+pub extern "C" fn ftm_time_ups(words: &[u16], crates: &[u8]) -> u64
+    ensures { λ r. ⌜ r ≡ servedOf (afterOne (now (words .entry))) (now (crates .entry)) ⌝ }
+{
+    let done = obeyed(words, 1);
+    let mut board = done.board;
+    let mut served = 0;
+    let mut i = 0;
+    while i < crates.len() {
+        let replied = board.time_up(crates[i]);
+        let answer = replied.answer;
+        let next = replied.board;
+        served += served_count(answer);
+        board = next;
+        i += 1;
+    }
+    served
+}
+
+// On a fresh board: obeys two commands of the words, then makes the clock steps, of so many ticks each. The timestamp then.
+#[no_mangle]
+pub extern "C" fn ftm_clock_steps(words: &[u16], ticks: &[u32]) -> u64
+    ensures { λ r. ⌜ r ≡ clockedAll (afterTwo (now (words .entry))) (now (ticks .entry)) .run .timestamp ⌝ }
+{
+    let done = obeyed(words, 2);
+    let mut board = done.board;
+    let mut i = 0;
+    while i < ticks.len() {
+        board = board.clock(ticks[i]);
+        i += 1;
+    }
+    let run = board.run;
+    run.timestamp
+}
+
+// On a fresh board: obeys two commands of the words, then gives triggers of n = 4, whose packets go into the lent bytes one after another,
+// until there is no room for one more, or one is refused. How many were given.
+#[no_mangle]
+pub extern "C" fn ftm_triggers(words: &[u16], out: &mut [u8]) -> u64
+    ensures { λ r. ⌜ GivesTriggers (afterTwo (now (words .entry)) .run) (now (out .entry)) r (now (out .exit)) ⌝ }
 {
     let fields = Fields {
         n: 4,
@@ -116,15 +234,16 @@ fn trigger_all(first: Run, out: &mut [u8]) -> u64
         lp2: false,
         lp1: false,
     };
-    let mut run = first;
+    let done = obeyed(words, 2);
+    let mut board = done.board;
     let n = out.len() / 7;
     let mut i = 0;
     while i < n {
-        let t = run.trigger(fields, &mut out[7 * i..]);
+        let t = board.trigger(fields, &mut out[7 * i..]);
         let answer = t.answer;
-        let next = t.run;
+        let next = t.board;
         match answer {
-            Written::Length(_) => run = next,
+            Written::Length(_) => board = next,
             Written::Refused(_) => return i as u64,
         }
         i += 1;
@@ -132,25 +251,9 @@ fn trigger_all(first: Run, out: &mut [u8]) -> u64
     i as u64
 }
 
-// On a fresh board: obeys two commands of the words, then gives triggers, whose packets go into the lent bytes one after another.
-#[no_mangle]
-pub extern "C" fn ftm_triggers(words: &[u16], out: &mut [u8]) -> u64
-    ensures { λ r. ⌜ GivesTriggers (afterTwo (now (words .entry)) .run) (now (out .entry)) r (now (out .exit)) ⌝ }
-{
-    let up = power_up(0, 0);
-    let fresh = up.board;
-    let first = fresh.obey(words);
-    let written = first.board;
-    let used = first.used;
-    let second = written.obey(&words[used..]);
-    let board = second.board;
-    let run = board.run;
-    trigger_all(run, out)
-}
-
 // Whether bytes are a good packet: 1, else 0.
 fn good_packet(bytes: &[u8]) -> u64
-    ensures { λ r. ⌜ (r ≡ goodPacket (packetAnswer (now (bytes .entry)))) × (r ≤ 1) ⌝ }
+    ensures { λ r. ⌜ (r ≡ isGiven (packetAnswer (now (bytes .entry)))) × (r ≤ 1) ⌝ }
 {
     match read_packet(bytes) {
         PacketRead::Read(_) => 1,

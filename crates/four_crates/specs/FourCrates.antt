@@ -4,25 +4,23 @@ use mathlib.Core.Path.{_≡_}
 use mathlib.Core.Bool.{Bool, not, cond, _||_}
 use mathlib.Core.List.{List, [], _∷_}
 use lib.Dec.{eqb, ltb}
-use lib.ListN.{getD, set}
+use lib.ListN.{getD}
 use Rattle.refusals.specs.Tables.{Answer, given, refused, Rule, rule, lowest, onPaper}
 use Rattle.ftu_list.specs.declared.Entry.{Entry}
 use Rattle.steps.specs.declared.Heard.{Heard}
-use Rattle.crate_pass.specs.Crate.{silent, isDone, begunCrate, moved, crateRules, replyOnPaper}
+use Rattle.crate_pass.specs.Crate.{silent, entriesIn, isDone, begunCrate, Moved, moved, crateRules}
 use Rattle.crate_pass.specs.declared.PassKind.{PassKind}
 use Rattle.crate_pass.specs.declared.Outcome.{Outcome}
 use Rattle.crate_pass.specs.declared.Crate.{Crate}
-use Rattle.crate_pass.specs.declared.Moved.{Moved}
 use Rattle.four_crates.specs.declared.Outstanding.{Outstanding}
 use Rattle.four_crates.specs.declared.Outstanding.the-variants.{Step}
 use Rattle.four_crates.specs.declared.FramesSent.{FramesSent}
 use Rattle.four_crates.specs.declared.FramesSent.the-variants.{Number}
-use Rattle.four_crates.specs.declared.FourServed.{FourServed}
 use Rattle.four_crates.specs.declared.Failure.{Failure}
 
 -- what stands for a crate above 3, which there is none of
 abbrev pub noCrate : Crate
-noCrate = record { board = 0; code = 0; tries = 0; sent = 0; failed = []; entries = [] }
+noCrate = record { dna = []; calls = []; «crc_errors» = []; failed = []; sent = 0; board = 0; code = 0; tries = 0 }
 
 abbrev pub crateOf : List Crate → ℕ → Crate
 crateOf cs i = getD cs i noCrate
@@ -73,20 +71,10 @@ movedOn cs i kind w h = moved kind w (crateOf cs i) h
 unfoldable pub servedAnswer : List Crate → ℕ → PassKind → ℕ → Heard → Answer Outcome
 servedAnswer cs i kind w h = lowest (servedRules cs i) (movedOn cs i kind w h .outcome)
 
--- "The four crates proceed apart": one changes, and no other
-abbrev pub afterServed : List Crate → ℕ → PassKind → ℕ → Heard → Answer Outcome → List Crate
-afterServed cs i kind w h (given o) = set cs i (movedOn cs i kind w h .state)
-afterServed cs i kind w h (refused n p) = cs
-
--- the crates answered r
-pub record ServesOn (cs : List Crate) (i : ℕ) (kind : PassKind) (w : ℕ) (h : Heard) (r : FourServed) : Type 0 where
-  pub answer : replyOnPaper (r .answer) ≡ servedAnswer cs i kind w h
-  pub crates : r .crates ≡ afterServed cs i kind w h (servedAnswer cs i kind w h)
-
 -- ---- the FTU list: "Board b (0 to 9) of crate c is k = 10c + b"
 
 abbrev pub entryAt : List Crate → ℕ → Entry
-entryAt cs k = getD (crateOf cs (k / 10) .entries) (k % 10) silent
+entryAt cs k = getD (entriesIn (crateOf cs (k / 10))) (k % 10) silent
 
 -- the entries of n boards from k on
 abbrev pub entriesFrom : List Crate → ℕ → ℕ → List Entry

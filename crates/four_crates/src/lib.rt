@@ -1,12 +1,13 @@
-// The four crates: a pass begun on all of them, whether one is under way, the entries of the FTU list, and the failure records.
+// The four crates: a pass begun on all of them, whether one is under way, the outstanding frames, the entries of the FTU list, and the failure records.
 ghost use mathlib.Core.Path.{_≡_};
-ghost use Rattle.four_crates.specs.FourCrates.{inPass, begunAll, outstandingOnPaper, outstandingAnswer, sentOnPaper, sentOn, ServesOn, entriesOf, failedAt, recordAt};
+ghost use Prim.Native.Nat.{_<_};
+ghost use lib.ListN.{getD};
+ghost use Rattle.crate_pass.specs.Crate.{entriesIn, silent};
+ghost use Rattle.four_crates.specs.FourCrates.{inPass, begunAll, outstandingOnPaper, outstandingAnswer, sentOnPaper, sentOn, entriesOf, failedAt, recordAt};
 use crate_pass::Crate;
 use crate_pass::PassKind;
-use crate_pass::ReplyAnswer;
 use ftu_list::Entry;
 use refusals::Refusal;
-use steps::Heard;
 
 // A board k that failed, with the number of the code of the step that did.
 pub struct Failure {
@@ -24,12 +25,6 @@ pub enum Outstanding {
 pub enum FramesSent {
     Number(u16),
     Refused(Refusal),
-}
-
-// An answer, with the crates after it.
-pub struct FourServed {
-    pub answer: ReplyAnswer,
-    pub crates: [Crate; 4],
 }
 
 // Whether a frame is outstanding on some crate.
@@ -93,32 +88,18 @@ pub fn sent_on(crates: [Crate; 4], index: u8) -> FramesSent
     FramesSent::Number(own.sent)
 }
 
-// What a reply or a time-up on a crate gets; it changes that crate alone.
-pub fn serve_on(
-    crates: [Crate; 4],
-    index: u8,
-    kind: PassKind,
-    word: u16,
-    heard: Heard,
-) -> FourServed
-    ensures { λ r. ⌜ ServesOn crates index kind word heard r ⌝ }
+// A board's entry of the FTU list, from what its crate keeps.
+fn entry_of(own: Crate, board: usize) -> Entry
+    requires { ⌜ board < 10 ⌝ }
+    ensures { λ r. ⌜ r ≡ getD (entriesIn own) board silent ⌝ }
 {
-    if 3 < index {
-        return FourServed {
-            answer: ReplyAnswer::Refused(Refusal::NoSuchCrate),
-            crates,
-        };
-    }
-    let at = index as usize;
-    let old = crates[at];
-    let served = old.serve(kind, word, heard);
-    let answer = served.answer;
-    let state = served.state;
-    let mut next = crates;
-    next[at] = state;
-    FourServed {
-        answer,
-        crates: next,
+    let dna = own.dna;
+    let calls = own.calls;
+    let crc_errors = own.crc_errors;
+    Entry {
+        dna: dna[board],
+        calls: calls[board],
+        crc_errors: crc_errors[board],
     }
 }
 
@@ -127,17 +108,15 @@ pub fn entries_of(crates: [Crate; 4]) -> [Entry; 40]
     ensures { λ r. ⌜ r ≡ entriesOf crates ⌝ }
 {
     let silent = Entry {
-        calls: 0,
         dna: 0,
+        calls: 0,
         crc_errors: 0,
     };
     let mut entries = [silent; 40];
     let mut k = 0;
     while k < 40 {
         let own = crates[k / 10];
-        let part = own.entries;
-        let entry = part[k % 10];
-        entries[k] = entry;
+        entries[k] = entry_of(own, k % 10);
         k += 1;
     }
     entries

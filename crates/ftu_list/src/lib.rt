@@ -16,9 +16,9 @@ use words::copy_words;
 
 // What a ping found of a board. One that did not answer has no calls.
 pub struct Entry {
+    pub dna: u64,
     // How many calls it needed.
     pub calls: u8,
-    pub dna: u64,
     pub crc_errors: u8,
 }
 

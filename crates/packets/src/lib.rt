@@ -3,7 +3,7 @@ ghost use mathlib.Core.Path.{_≡_};
 ghost use Prim.Native.Nat.{_<_, _≤_};
 ghost use Rattle.refusals.specs.Writing.{Wrote};
 ghost use Rattle.packets.specs.Packets.{bitOf, inRange, packetBytes, numberIn, fieldsIn, writeRules, readOnPaper, packetAnswer};
-use crc::crc8;
+use crc::crc_of_six;
 use refusals::Refusal;
 use refusals::Written;
 
@@ -63,8 +63,7 @@ fn packet_bytes(number: u32, f: Fields) -> [u8; 7]
     let b1 = (number / 256 % 256) as u8;
     let b2 = (number / 256 / 256 % 256) as u8;
     let b3 = (number / 256 / 256 / 256 % 256) as u8;
-    let front = [b0, b1, b2, b3, type1, type2];
-    let c = crc8(&front);
+    let c = crc_of_six(b0, b1, b2, b3, type1, type2);
     [b0, b1, b2, b3, type1, type2, c]
 }
 
@@ -119,7 +118,7 @@ pub fn read_packet(bytes: &[u8]) -> PacketRead
     if bytes.len() != 7 {
         return PacketRead::Refused(Refusal::WrongPacketLength);
     }
-    if crc8(&bytes[..6]) != bytes[6] {
+    if crc_of_six(bytes[0], bytes[1], bytes[2], bytes[3], bytes[4], bytes[5]) != bytes[6] {
         return PacketRead::Refused(Refusal::WrongPacketCrc);
     }
     let fields = fields_in(bytes[4], bytes[5]);

@@ -1,24 +1,17 @@
--- What was accepted: a command, as its reader accepts it, and of a write 436 words within their bounds; a trigger, while a run is on.
+-- What was accepted: a command, as its reader accepts it, and of a write 436 words within their bounds.
 -- Assumes nothing.
 use Prim.Native.Nat.{ℕ}
 use mathlib.Core.Path.{_≡_, refl, sym, ap, _∙_}
-use mathlib.Core.Bool.{false, not}
+use mathlib.Core.Bool.{false}
 use mathlib.Core.List.{List}
 use lib.ListN.{length}
-use borrow.Author.Tests.{eqb-false}
 use Rattle.refusals.specs.Tables.{Answer, given}
-use Rattle.refusals.proofs.Tables.{Clear, given-clear, clear-front}
-use Rattle.refusals.specs.Writing.{writingRules, writing}
 use Rattle.bounds.specs.Bounds.{boundOf, lowestAbove}
-use Rattle.packets.specs.Packets.{packetBytes}
-use Rattle.packets.specs.declared.Fields.{Fields}
 use Rattle.commands.specs.Commands.{noEvents}
 use Rattle.commands.specs.declared.Command.{Command}
 use Rattle.commands.specs.declared.Command.the-variants.{Write}
 use Rattle.command_reader.specs.Reading.{readRules, taken, blockOf}
 use Rattle.command_reader.proofs.Used.{length-block, write-within}
-use Rattle.run.specs.Run.{isRunning, triggerNumber, triggerRules, triggerAnswer}
-use Rattle.run.specs.declared.Run.{Run}
 use Rattle.acceptance.proofs.Deciding.{obeyed-named, obeyed-words, obeyed-read}
 use Rattle.board.specs.State.{situationOf}
 use Rattle.board.specs.Commands.{boardAnswer, blockIn, written, afterCommand, boardAfter}
@@ -44,19 +37,3 @@ module _ (β : Board) (w : List ℕ) (e : boardAnswer β w ≡ given Write) wher
   pub written-block : boardAfter β w .block ≡ blockOf w
   unfolding written
   written-block = ap (λ (a : Answer Command). afterCommand β (blockIn w) a .block) e ∙ block-is
-
--- ---- triggers
-
--- of an accepted one: a run is on, and the counter is not at its end
-module _ (r : Run) (f : Fields) (out : List ℕ) (n : ℕ) (e : triggerAnswer r f out ≡ given n) where
-  trigger-clear : Clear (triggerRules r f)
-  unfolding writing
-  trigger-clear = clear-front (triggerRules r f) _ (given-clear (writingRules (triggerRules r f) (packetBytes (triggerNumber r) f) out) (length (packetBytes (triggerNumber r) f)) n e)
-
-  pub trigger-running : not (isRunning r) ≡ false
-  unfolding triggerRules
-  trigger-running = trigger-clear .1 .0
-
-  pub trigger-room : r .«trigger_counter» ≡ 4294967295 → ⊥
-  unfolding triggerRules
-  trigger-room = eqb-false _ _ (trigger-clear .1 .1 .0)

@@ -26,7 +26,8 @@ use Rattle.any_order.specs.Steps.{Event, heard}
 use Rattle.any_order.specs.AnyOrder.{wordOf, mostFrames, beginsPass}
 use Rattle.any_order.proofs.Begun.{Begun, begun-after}
 use Rattle.any_order.proofs.OneCrate.{runs-start}
-use Rattle.any_order.proofs.Served.{Runs, crateStep, step-runs, board-low, board-high}
+use Rattle.board.proofs.Serving.{board-low, board-high}
+use Rattle.any_order.proofs.Served.{Runs, crateStep, step-runs}
 use Rattle.reachable.proofs.Accepted.{block-length, block-within}
 use Rattle.reachable.proofs.OneCall.{false≢true}
 use Rattle.reachable.proofs.Holding.{Holds, runs-number}
@@ -149,4 +150,4 @@ holds-event β c e s = go (ltb c 4) refl (isDone (crateAt β c)) refl
     go true p true q = rw (replied-done β c (heardOn β c e) (ltb-true _ _ p) q) s
     go true p false q =
         let l : c < 4 = ltb-true _ _ p in
-        subst Holds (sym (board-low β c (heardOn β c e) l)) (holds-crate β c (next β c e) l q (runs-next β c e (s .walks c l q)) s)
+        subst Holds (sym (board-low β c (heardOn β c e) (omega arith))) (holds-crate β c (next β c e) l q (runs-next β c e (s .walks c l q)) s)

@@ -16,7 +16,7 @@ use Rattle.board.specs.State.{withRun, situationOf}
 use Rattle.board.specs.Commands.{boardAnswer, afterTriggerOn}
 use Rattle.board.specs.declared.Board.{Board}
 use Rattle.acceptance.proofs.Deciding.{obeyed-now}
-use Rattle.reachable.proofs.Accepted.{trigger-running, trigger-room}
+use Rattle.run.proofs.Laws.{accepted-running, room}
 use Rattle.reachable.proofs.OneCall.{false≢true}
 use Rattle.reachable.proofs.Holding.{Holds}
 
@@ -98,8 +98,8 @@ holds-trigger β f out h = go (triggerAnswer (β .run) f out) refl
   where
     go : (a : Answer ℕ) → triggerAnswer (β .run) f out ≡ a → Holds (withRun β (afterAnswer (β .run) a))
     go (given n) e =
-        holds-run β (afterTrigger (β .run)) h (counters-after (β .run) (counters-of β h) (trigger-room (β .run) f out n e))
-        (and-false (isRunning (afterTrigger (β .run))) (inPass (β .crates)) (running-apart (isRunning (β .run)) (inPass (β .crates)) (h .reaches .apart) (trigger-running (β .run) f out n e)))
+        holds-run β (afterTrigger (β .run)) h (counters-after (β .run) (counters-of β h) (room (β .run) f out n e))
+        (and-false (isRunning (afterTrigger (β .run))) (inPass (β .crates)) (running-apart (isRunning (β .run)) (inPass (β .crates)) (h .reaches .apart) (accepted-running (β .run) f out n e)))
     go (refused n p) e = h
 
 -- ---- starts and stops

@@ -26,7 +26,8 @@ use Rattle.board.specs.declared.Board.{Board}
 use Rattle.reachable.specs.Calls.{Call, command, clockStep, trigger, reply, timeUp, afterCall, afterAll, isStartOrStop, noStartOrStop}
 use Rattle.reachable.specs.Numbering.{whereGiven, numberOf, numbers, upFrom, GoesOn, Numbered}
 use Rattle.reachable.proofs.OneCall.{false≢true, Free, none-first, replied-run}
-use Rattle.reachable.proofs.Accepted.{accepted-events, trigger-running}
+use Rattle.run.proofs.Laws.{accepted-running}
+use Rattle.reachable.proofs.Accepted.{accepted-events}
 
 -- ---- a run that was started for some length, after m of its triggers
 
@@ -80,7 +81,7 @@ data Next (l : RunLength) (m : ℕ) (given-here : List ℕ) (r : Run) : Type 0 w
 
 next-trigger : (l : RunLength) (m : ℕ) (r : Run) (f : Fields) (out : List ℕ) → Going l m r
     → Next l m (whereGiven (triggerAnswer r f out) (triggerNumber r)) (afterAnswer r (triggerAnswer r f out))
-next-trigger l m r f out g = go (triggerAnswer r f out) (trigger-running r f out) g
+next-trigger l m r f out g = go (triggerAnswer r f out) (accepted-running r f out) g
   where
     go : (a : Answer ℕ) → ((n : ℕ) → a ≡ given n → not (isRunning r) ≡ false) → Going l m r → Next l m (whereGiven a (triggerNumber r)) (afterAnswer r a)
     go (given n) running (on e c h) = one-more (ap (λ (k : ℕ). k ∷ []) (omega arith)) (going-more l m r e c h)

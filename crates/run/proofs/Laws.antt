@@ -4,19 +4,20 @@ use Prim.Native.Nat.{ℕ}
 use mathlib.Core.Path.{_≡_, refl, sym, ap, _∙_}
 use mathlib.Core.Bool.{Bool, true, false, not, cond}
 use mathlib.Core.List.{List}
-use borrow.Author.Tests.{eq-eqb, ne-eqb}
+use borrow.Author.Tests.{eq-eqb, ne-eqb, eqb-false}
+use Rattle.refusals.specs.Tables.{given}
 use Rattle.refusals.specs.Writing.{writtenOnPaper, Wrote}
-use Rattle.refusals.specs.declared.Refusal.{Refusal}
 use Rattle.refusals.specs.declared.Refusal.the-variants.{TriggerFieldOutOfRange, NotRunning, TriggerCounterAtEnd}
 use Rattle.refusals.specs.declared.Written.{Written}
-use Rattle.refusals.specs.declared.Written.the-variants.{Length, Refused}
-use Rattle.refusals.proofs.Writing.{wrote-refused, wrote-alike}
+use Rattle.refusals.specs.declared.Written.the-variants.{Refused}
+use Rattle.refusals.proofs.Tables.{Clear}
+use Rattle.refusals.proofs.Writing.{wrote-refused, wrote-alike, wrote-clear}
 use Rattle.packets.specs.Packets.{inRange, packetBytes, writeRules}
 use Rattle.packets.specs.declared.Fields.{Fields}
-use Rattle.run.specs.Run.{isRunning, stopped, clocked, clockedRun, triggerNumber, triggerRules, isLast, counted, afterTrigger, refusedWith, afterAnswer, Triggers}
+use Rattle.run.specs.Run.{isRunning, stopped, clocked, clockedRun, isLast, counted, afterTrigger}
+use Rattle.run.specs.Run.{triggerNumber, triggerRules, triggerAnswer, afterAnswer, Gives, Triggers}
 use Rattle.run.specs.declared.Running.{Running}
 use Rattle.run.specs.declared.Run.{Run}
-use Rattle.run.specs.declared.Triggered.{Triggered}
 
 -- ---- a clock step
 
@@ -50,37 +51,41 @@ module _ (r : Run) where
 -- ---- a trigger
 
 module _ (r : Run) (f : Fields) (out : List ℕ) where
-  -- the run follows the answer
-  triggers : (t : Triggered) (after : List ℕ) → Wrote (triggerRules r f) (packetBytes (triggerNumber r) f) out (t .answer) after
-      → t .run ≡ afterAnswer r (writtenOnPaper (t .answer)) → Triggers r f out t after
-  triggers t after w e = record { packet = w; run = e ∙ ap (afterAnswer r) (w .answer) }
+  -- its refusals, each where those before it do not apply
+  pub gives-15 : not (inRange f) ≡ true → Gives r f out (Refused TriggerFieldOutOfRange) out
+  unfolding triggerRules
+  gives-15 h = wrote-refused _ _ _ TriggerFieldOutOfRange (rw h refl)
 
-  -- `a` and `b`: whether the fields are in range, and whether the board is running
-  module _ (a : Bool) (ea : a ≡ inRange f) where
-    pub trigger-15 : (t : Triggered) → t ≡ refusedWith r TriggerFieldOutOfRange → not a ≡ true → Triggers r f out t out
+  module _ (a : not (inRange f) ≡ false) where
+    pub gives-16 : not (isRunning r) ≡ true → Gives r f out (Refused NotRunning) out
     unfolding triggerRules
-    trigger-15 t e h = rw e (triggers _ out (wrote-refused _ _ _ TriggerFieldOutOfRange (rw (rw ea at h) refl)) refl)
+    gives-16 h = wrote-refused _ _ _ NotRunning (rw (a, h) refl)
 
-    module _ (ha : not a ≡ false) (b : Bool) (eb : b ≡ isRunning r) where
-      pub trigger-16 : (t : Triggered) → t ≡ refusedWith r NotRunning → not b ≡ true → Triggers r f out t out
+    module _ (b : not (isRunning r) ≡ false) where
+      pub gives-17 : r .«trigger_counter» ≡ 4294967295 → Gives r f out (Refused TriggerCounterAtEnd) out
       unfolding triggerRules
-      trigger-16 t e h = rw e (triggers _ out (wrote-refused _ _ _ NotRunning (rw (rw ea at ha, rw eb at h) refl)) refl)
+      gives-17 h = wrote-refused _ _ _ TriggerCounterAtEnd (rw (a, b, eq-eqb _ _ h) refl)
 
-      module _ (hb : not b ≡ false) where
-        pub trigger-17 : (t : Triggered) → t ≡ refusedWith r TriggerCounterAtEnd → r .«trigger_counter» ≡ 4294967295 → Triggers r f out t out
-        unfolding triggerRules
-        trigger-17 t e h = rw e (triggers _ out (wrote-refused _ _ _ TriggerCounterAtEnd (rw (rw ea at ha, rw eb at hb, eq-eqb _ _ h) refl)) refl)
+      -- where none applies, the answer is that of the writer of packets
+      pub gives : (r .«trigger_counter» ≡ 4294967295 → ⊥) → (w : Written) (after : List ℕ) → Wrote (writeRules f) (packetBytes (triggerNumber r) f) out w after
+          → Gives r f out w after
+      unfolding triggerRules
+      gives h w after = wrote-alike _ _ _ _ w after (a, tt) (a, (b, (ne-eqb _ _ h, tt)))
 
-        -- what the writer of packets answered and left
-        module _ (h : r .«trigger_counter» ≡ 4294967295 → ⊥) (w : Written) (after : List ℕ) (hw : Wrote (writeRules f) (packetBytes (triggerNumber r) f) out w after) where
-          passed-on : Wrote (triggerRules r f) (packetBytes (triggerNumber r) f) out w after
-          unfolding triggerRules
-          passed-on =
-              let q : not (inRange f) ≡ false = rw ea at ha in
-              wrote-alike _ _ _ _ w after (q, tt) (q, (rw eb at hb, (ne-eqb _ _ h, tt))) hw
+  -- of an accepted one: a run is on, and the counter is not at its end
+  module _ (n : ℕ) (e : triggerAnswer r f out ≡ given n) where
+    clear : Clear (triggerRules r f)
+    clear = wrote-clear (triggerRules r f) _ out n _ (record { answer = sym e; output = refl })
 
-          pub trigger-given : (n : ℕ) → w ≡ Length n → (s : Run) → s ≡ afterTrigger r → Triggers r f out (record { answer = Length n; run = s }) after
-          trigger-given n e s es = triggers _ after (rw e at passed-on) es
+    pub accepted-running : not (isRunning r) ≡ false
+    unfolding triggerRules
+    accepted-running = clear .1 .0
 
-          pub trigger-refused : (x : Refusal) → w ≡ Refused x → (t : Triggered) → t ≡ refusedWith r x → Triggers r f out t after
-          trigger-refused x e t et = rw et (triggers _ after (rw e at passed-on) refl)
+    pub room : r .«trigger_counter» ≡ 4294967295 → ⊥
+    unfolding triggerRules
+    room = eqb-false _ _ (clear .1 .1 .0)
+
+  -- the run follows the answer
+  pub triggers : (w : Written) (after : List ℕ) → Gives r f out w after → (s : Run) → s ≡ afterAnswer r (writtenOnPaper w)
+      → Triggers r f out (record { run = s; answer = w }) after
+  triggers w after g s e = record { packet = g; run = e ∙ ap (afterAnswer r) (g .answer) }

@@ -30,7 +30,8 @@ clock-keeps r ticks = (refl, refl, refl)
 
 -- ---- an accepted trigger
 
-module _ (r : Run) (f : Fields) (out : List ℕ) (t : Triggered) (after : List ℕ) (h : Triggers r f out t after) (n : ℕ) (e : writtenOnPaper (t .answer) ≡ given n) where
+module _ (r : Run) (f : Fields) (out : List ℕ) (t : Triggered) (after : List ℕ) (h : Triggers r f out t after)
+    (n : ℕ) (e : writtenOnPaper (t .answer) ≡ given n) where
   -- the run follows it
   pub accepted : t .run ≡ afterTrigger r
   accepted = h .run ∙ ap (afterAnswer r) (sym (h .packet .answer) ∙ e)

@@ -6,8 +6,7 @@ use mathlib.Core.List.{List, [], _∷_}
 use lib.Dec.{eqb}
 use Rattle.refusals.specs.Tables.{Answer, given, refused, Rule, rule}
 use Rattle.refusals.specs.Writing.{writing, Wrote}
-use Rattle.refusals.specs.declared.Refusal.{Refusal}
-use Rattle.refusals.specs.declared.Written.the-variants.{Refused}
+use Rattle.refusals.specs.declared.Written.{Written}
 use Rattle.commands.specs.declared.RunLength.{RunLength}
 use Rattle.commands.specs.declared.RunLength.the-variants.{Endless, Counted}
 use Rattle.packets.specs.Packets.{inRange, packetBytes}
@@ -95,9 +94,6 @@ counted r =
 unfoldable pub afterTrigger : Run → Run
 afterTrigger r = cond (isLast (r .running) (triggerNumber r)) (stopped r) (counted r)
 
-abbrev pub refusedWith : Run → Refusal → Triggered
-refusedWith r f = record { answer = Refused f; run = r }
-
 -- the run after a trigger that got the answer
 abbrev pub afterAnswer : Run → Answer ℕ → Run
 afterAnswer r (given n) = afterTrigger r
@@ -107,7 +103,11 @@ afterAnswer r (refused n p) = r
 abbrev pub triggerAnswer : Run → Fields → List ℕ → Answer ℕ
 triggerAnswer r f out = writing (triggerRules r f) (packetBytes (triggerNumber r) f) out
 
+-- a trigger with the fields f was answered w, and the lent bytes `out` became `after`
+abbrev pub Gives : Run → Fields → List ℕ → Written → List ℕ → Type 0
+Gives r f out w after = Wrote (triggerRules r f) (packetBytes (triggerNumber r) f) out w after
+
 -- the trigger answered t, and the lent bytes `out` became `after`
 pub record Triggers (r : Run) (f : Fields) (out : List ℕ) (t : Triggered) (after : List ℕ) : Type 0 where
-  pub packet : Wrote (triggerRules r f) (packetBytes (triggerNumber r) f) out (t .answer) after
+  pub packet : Gives r f out (t .answer) after
   pub run : t .run ≡ afterAnswer r (triggerAnswer r f out)

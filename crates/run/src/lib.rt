@@ -1,7 +1,7 @@
 // The run: whether and how long the board takes events, its three counters, and whether the configuration is fresh.
 ghost use mathlib.Core.Path.{_≡_};
 ghost use Prim.Native.Nat.{_<_};
-ghost use Rattle.run.specs.Run.{isRunning, atPowerUp, started, stopped, refreshed, clocked, clockedRun, afterTrigger, refusedWith, Triggers};
+ghost use Rattle.run.specs.Run.{isRunning, atPowerUp, started, stopped, refreshed, clocked, clockedRun, afterTrigger, Gives, Triggers};
 use commands::RunLength;
 use packets::Fields;
 use packets::Packet;
@@ -27,10 +27,10 @@ pub struct Run {
     pub on_time: u64,
 }
 
-// What a trigger answers, and the run after it.
+// The run after a trigger, and what the trigger answered.
 pub struct Triggered {
-    pub answer: Written,
     pub run: Run,
+    pub answer: Written,
 }
 
 // A counter of 48 bits, some ticks later.
@@ -152,36 +152,33 @@ impl Run {
         }
     }
 
-    // A refused trigger leaves the run as it is.
-    fn refuse(self, r: Refusal) -> Triggered
-        ensures { λ t. ⌜ t ≡ refusedWith self r ⌝ }
+    // The packet of a trigger, into the lent bytes, or why there is none.
+    fn give(self, fields: Fields, out: &mut [u8]) -> Written
+        ensures { λ r. ⌜ Gives self fields (now (out .entry)) r (now (out .exit)) ⌝ }
     {
-        Triggered {
-            answer: Written::Refused(r),
-            run: self,
+        if !in_range(fields) {
+            return Written::Refused(Refusal::TriggerFieldOutOfRange);
         }
+        if !self.is_running() {
+            return Written::Refused(Refusal::NotRunning);
+        }
+        if self.trigger_counter == 4294967295 {
+            return Written::Refused(Refusal::TriggerCounterAtEnd);
+        }
+        let number = self.trigger_counter + 1;
+        write_packet(Packet { number, fields }, out)
     }
 
-    // A trigger: the counter goes up by one and is the number of the packet, which goes into the lent bytes.
+    // A trigger: the counter goes up by one and is the number of the packet, which goes into the lent bytes. (One way out, so that the run is copied
+    // once.)
     pub fn trigger(self, fields: Fields, out: &mut [u8]) -> Triggered
         ensures { λ r. ⌜ Triggers self fields (now (out .entry)) r (now (out .exit)) ⌝ }
     {
-        if !in_range(fields) {
-            return self.refuse(Refusal::TriggerFieldOutOfRange);
-        }
-        if !self.is_running() {
-            return self.refuse(Refusal::NotRunning);
-        }
-        if self.trigger_counter == 4294967295 {
-            return self.refuse(Refusal::TriggerCounterAtEnd);
-        }
-        let number = self.trigger_counter + 1;
-        match write_packet(Packet { number, fields }, out) {
-            Written::Length(n) => Triggered {
-                answer: Written::Length(n),
-                run: self.count(),
-            },
-            Written::Refused(r) => self.refuse(r),
-        }
+        let answer = self.give(fields, out);
+        let run = match answer {
+            Written::Length(_) => self.count(),
+            Written::Refused(_) => self,
+        };
+        Triggered { run, answer }
     }
 }

@@ -49,7 +49,13 @@ loop-less : tie.Need-loop-less Inv-loop μ-loop
 loop-less c = search needs
 
 loop-again : tie.Need-loop-again Inv-loop μ-loop
-loop-again c = (omega arith, omega (arith, c .good-packet .ensures .1), packet-turn (c .before .before .before .before .before .args .bytes .now) _ _ _ (c .before .before .before .loop .inv .2) _ (7 * c .before .before .before .loop .i + 7 - 7 * c .before .before .before .loop .i) (c .before .before .loop-test .taken) (omega arith) (c .good-packet .ensures .0))
+loop-again c =
+    let in-loop = c .before .before in
+    let loop = in-loop .before .loop in
+    let bytes = in-loop .before .before .before .args .bytes .now in
+    let i = loop .i in
+    let turn = packet-turn bytes _ _ _ (loop .inv .2) _ (7 * i + 7 - 7 * i) (in-loop .loop-test .taken) (omega arith) (c .good-packet .ensures .0) in
+    (omega arith, omega (arith, c .good-packet .ensures .1), turn)
 
 returns : tie.Need-returns Inv-loop μ-loop
 unfolding goodPackets

@@ -24,7 +24,9 @@ returns c = ap answerNumber (ap readOnPaper (sym (c .enum-told .given .1)) ∙ c
 
 returns-2 : tie.Need-returns-2
 unfolding commandGiven
-returns-2 c = c .number .ensures ∙ ap answerNumber (ap readOnPaper (sym (c .before .before .r .given .1)) ∙ c .before .before .before .before .read-command .ensures)
+returns-2 c =
+    let at-r = c .before .before in
+    c .number .ensures ∙ ap answerNumber (ap readOnPaper (sym (at-r .r .given .1)) ∙ at-r .before .before .read-command .ensures)
 
 pub ftm-read-command-spec : {M : Type 1} → statement M
 ftm-read-command-spec =

@@ -28,10 +28,16 @@ enum-known-n : tie.Need-enum-known-n
 enum-known-n c = search needs
 
 slice-reshare-prefix-read-block : tie.Need-slice-reshare-prefix-read-block
-slice-reshare-prefix-read-block c = front-fits _ _ (c .before .before .before .before .before .write-static .result) _ (c .before .before .before .before .before .write-static .ensures) _ (c .before .n .given .1)
+slice-reshare-prefix-read-block c =
+    let at-n = c .before in
+    let written = at-n .before .before .before .before .write-static in
+    front-fits _ _ (written .result) _ (written .ensures) _ (at-n .n .given .1)
 
 slice-aggregate-read-block : tie.Need-slice-aggregate-read-block
-slice-aggregate-read-block c = front-length _ _ (c .before .before .before .before .before .before .write-static .result) _ (c .before .before .before .before .before .before .write-static .ensures) _ (c .before .before .n .given .1)
+slice-aggregate-read-block c =
+    let at-n = c .before .before in
+    let written = at-n .before .before .before .before .write-static in
+    front-length _ _ (written .result) _ (written .ensures) _ (at-n .n .given .1)
 
 read-block-requires : tie.Need-read-block-requires
 read-block-requires c κs = search needs
@@ -49,19 +55,39 @@ same-length : tie.Need-same-length
 same-length c = search needs
 
 returns : tie.Need-returns
-returns c = static-refused (now (c .before .before .before .before .before .before .before .before .before .before .before .before .before .args .block)) _ _ (c .before .before .before .before .before .before .before .before .before .copy-words .ensures) _ _ (c .before .before .before .before .before .before .write-static .ensures) _ _ (c .before .before .r .given .1) (c .number .ensures)
+returns c =
+    let at-r = c .before .before in
+    let written = at-r .before .before .before .before in
+    let copied = written .before .before .before in
+    static-refused (now (copied .before .before .before .before .args .block)) _ _ (copied .copy-words .ensures) _ _ (written .write-static .ensures) _ _
+    (at-r .r .given .1) (c .number .ensures)
 
 same-length-2 : tie.Need-same-length-2
 same-length-2 c = search needs
 
 returns-2 : tie.Need-returns-2
-returns-2 c = static-read (now (c .before .before .before .before .before .before .before .before .before .before .before .before .before .before .before .before .args .block)) _ _ (c .before .before .before .before .before .before .before .before .before .before .before .before .copy-words .ensures) _ _ (c .before .before .before .before .before .before .before .before .before .write-static .ensures) _ _ (c .before .before .before .before .before .n .given .1) (c .before .before .read-block .result) (c .before .before .read-block .ensures) (ap (λ (b : BlockRead). answerNumber (readOnPaper b)) (sym (c .enum-told .given .1)))
+returns-2 c =
+    let at-read = c .before .before in
+    let at-n = at-read .before .before .before in
+    let written = at-n .before .before .before .before in
+    let copied = written .before .before .before in
+    static-read (now (copied .before .before .before .before .args .block)) _ _ (copied .copy-words .ensures) _ _ (written .write-static .ensures) _ _
+    (at-n .n .given .1) (at-read .read-block .result) (at-read .read-block .ensures)
+    (ap (λ (b : BlockRead). answerNumber (readOnPaper b)) (sym (c .enum-told .given .1)))
 
 same-length-3 : tie.Need-same-length-3
 same-length-3 c = search needs
 
 returns-3 : tie.Need-returns-3
-returns-3 c = static-read (now (c .before .before .before .before .before .before .before .before .before .before .before .before .before .before .before .before .before .before .args .block)) _ _ (c .before .before .before .before .before .before .before .before .before .before .before .before .before .before .copy-words .ensures) _ _ (c .before .before .before .before .before .before .before .before .before .before .before .write-static .ensures) _ _ (c .before .before .before .before .before .before .before .n .given .1) (c .before .before .before .before .read-block .result) (c .before .before .before .before .read-block .ensures) (c .number2 .ensures ∙ ap (λ (b : BlockRead). answerNumber (readOnPaper b)) (sym (c .before .before .r2 .given .1)))
+returns-3 c =
+    let at-r = c .before .before in
+    let at-read = at-r .before .before in
+    let at-n = at-read .before .before .before in
+    let written = at-n .before .before .before .before in
+    let copied = written .before .before .before in
+    static-read (now (copied .before .before .before .before .args .block)) _ _ (copied .copy-words .ensures) _ _ (written .write-static .ensures) _ _
+    (at-n .n .given .1) (at-read .read-block .result) (at-read .read-block .ensures)
+    (c .number2 .ensures ∙ ap (λ (b : BlockRead). answerNumber (readOnPaper b)) (sym (at-r .r2 .given .1)))
 
 pub ftm-static-spec : {M : Type 1} → statement M
 ftm-static-spec =

@@ -1,51 +1,100 @@
 -- `exports::ftm_triggers` meets its contract. Assumes nothing.
 use denote.Ref.{now}
-use Rattle.exports.proofs.Obeyed.{used-within, triggers-are}
+use Prim.Native.Nat.{_-_, _≤_}
+use mathlib.Core.Path.{refl, ap}
+use Rattle.board.specs.declared.Board.{Board}
+use Rattle.exports.specs.Exports.{afterTwo}
+use Rattle.exports.proofs.Triggers.{TriggersSoFar, none-given, at-end, one-given, one-refused}
 use borrow.Author.Needs.{needs}
+use native.Mathlib.Omega.{arith}
 use Rattle.exports.proofs.ftm_triggers.Statement.{statement}
 use Rattle.exports.proofs.ftm_triggers.Tie as tie
 
-power-up-requires : tie.Need-power-up-requires
-power-up-requires c κs = tt
+abbrev Inv-loop : tie.InvT-loop
+Inv-loop words out₀ fields board₀ n i₀ out board i = (i ≤ n) × TriggersSoFar (afterTwo words .run) n i out₀ out (board .run)
 
-obey-requires : tie.Need-obey-requires
-obey-requires c κs = tt
+abbrev μ-loop : tie.MeasureT-loop
+μ-loop words out₀ fields board₀ n i₀ out board i = n - i
 
-mul-obey : tie.Need-mul-obey
-mul-obey c = let h = used-within (now (c .before .before .before .before .before .before .args .words)) (c .before .before .before .power-up .result) (c .before .before .before .power-up .ensures) (c .before .obey .result) (c .before .obey .ensures) in search needs
+obeyed-requires : tie.Need-obeyed-requires Inv-loop μ-loop
+obeyed-requires c κs = search needs
 
-sub-obey : tie.Need-sub-obey
-sub-obey c = used-within (now (c .before .before .before .before .before .before .args .words)) (c .before .before .before .power-up .result) (c .before .before .before .power-up .ensures) (c .before .obey .result) (c .before .obey .ensures)
+loop-holds : tie.Need-loop-holds Inv-loop μ-loop
+loop-holds c = (omega arith, none-given _ _ _ _ (ap (λ (β : Board). β .run) (c .before .obeyed .ensures .board)))
 
-part-obey-start : tie.Need-part-obey-start
-part-obey-start c = let h = used-within (now (c .before .before .before .before .before .before .args .words)) (c .before .before .before .power-up .result) (c .before .before .before .power-up .ensures) (c .before .obey .result) (c .before .obey .ensures) in search needs
+mul-trigger : tie.Need-mul-trigger Inv-loop μ-loop
+mul-trigger c = search needs
 
-part-obey-end : tie.Need-part-obey-end
-part-obey-end c = search needs
+sub-trigger : tie.Need-sub-trigger Inv-loop μ-loop
+sub-trigger c = search needs
 
-obey-requires-2 : tie.Need-obey-requires-2
-obey-requires-2 c κs = tt
+part-trigger-start : tie.Need-part-trigger-start Inv-loop μ-loop
+part-trigger-start c = search needs
 
-trigger-all-requires : tie.Need-trigger-all-requires
-trigger-all-requires c κs = tt
+part-trigger-end : tie.Need-part-trigger-end Inv-loop μ-loop
+part-trigger-end c = search needs
 
-same-length : tie.Need-same-length
+trigger-requires : tie.Need-trigger-requires Inv-loop μ-loop
+trigger-requires c κs = search needs
+
+enum-told : tie.Need-enum-told Inv-loop μ-loop
+enum-told c = search needs
+
+enum-told-2 : tie.Need-enum-told-2 Inv-loop μ-loop
+enum-told-2 c = search needs
+
+same-length : tie.Need-same-length Inv-loop μ-loop
 same-length c = search needs
 
-returns : tie.Need-returns
-returns c = triggers-are (now (c .before .before .before .before .before .before .before .before .before .before .before .before .before .before .args .words)) (c .before .before .before .before .before .before .before .before .before .before .before .power-up .result) (c .before .before .before .before .before .before .before .before .before .before .before .power-up .ensures) (c .before .before .before .before .before .before .before .before .before .obey .result) (c .before .before .before .before .before .before .before .before .before .obey .ensures) (c .before .before .before .before .before .before .obey2 .result) (c .before .before .before .before .before .before .obey2 .ensures) _ _ _ (c .before .before .trigger-all .ensures)
+returns : tie.Need-returns Inv-loop μ-loop
+returns c =
+    let at-trigger = c .before .before .before .before .before in
+    let in-loop = at-trigger .before .before in
+    let loop = in-loop .before in
+    one-refused _ _ _ (now (loop .before .before .before .before .before .args .out)) _ _ (loop .loop .inv .1) refl (in-loop .loop-test .taken)
+    (at-trigger .trigger .result) _ (at-trigger .trigger .ensures) _ (c .enum-told2 .given .1)
+
+add-i : tie.Need-add-i Inv-loop μ-loop
+add-i c = search needs
+
+loop-less : tie.Need-loop-less Inv-loop μ-loop
+loop-less c = search needs
+
+loop-again : tie.Need-loop-again Inv-loop μ-loop
+loop-again c =
+    let at-trigger = c .before .before .before .before .before in
+    let in-loop = at-trigger .before .before in
+    let loop = in-loop .before in
+    let turn =
+    one-given _ _ _ (now (loop .before .before .before .before .before .args .out)) _ _ (loop .loop .inv .1) refl (in-loop .loop-test .taken)
+    (at-trigger .trigger .result) _ (at-trigger .trigger .ensures) _ (c .enum-told .given .1) in
+    (omega arith, turn)
+
+same-length-2 : tie.Need-same-length-2 Inv-loop μ-loop
+same-length-2 c = search needs
+
+returns-2 : tie.Need-returns-2 Inv-loop μ-loop
+returns-2 c = at-end _ _ _ (now (c .before .before .before .before .before .before .args .out)) _ _ (c .before .loop .inv .1) refl (omega arith) (omega arith)
 
 pub ftm-triggers-spec : {M : Type 1} → statement M
 ftm-triggers-spec =
     tie.close
     (tie.spec
-    power-up-requires
-    obey-requires
-    mul-obey
-    sub-obey
-    part-obey-start
-    part-obey-end
-    obey-requires-2
-    trigger-all-requires
+    Inv-loop
+    μ-loop
+    obeyed-requires
+    loop-holds
+    mul-trigger
+    sub-trigger
+    part-trigger-start
+    part-trigger-end
+    trigger-requires
+    enum-told
+    enum-told-2
     same-length
-    returns)
+    returns
+    add-i
+    loop-less
+    loop-again
+    same-length-2
+    returns-2)

@@ -6,7 +6,8 @@ use mathlib.Core.Path.{_≡_, _∙_}
 use lib.ListN.{drop}
 use Rattle.exports.proofs.Replies.{reply-start, turn-none, turn-served, reply-end}
 use Rattle.board.specs.declared.Board.{Board}
-use Rattle.exports.specs.Exports.{goodOf, holding}
+use Rattle.exports.specs.Exports.{goodOf}
+use Rattle.exports.specs.Parts.{holding}
 use borrow.Author.Needs.{needs}
 use native.Mathlib.Omega.{arith}
 use Rattle.exports.proofs.good_replies.Statement.{statement}
@@ -78,7 +79,9 @@ good-count-requires : tie.Need-good-count-requires Inv-loop μ-loop
 good-count-requires c κs = search needs
 
 add-good : tie.Need-add-good Inv-loop μ-loop
-add-good c = search needs
+add-good c =
+    let in-loop = c .before .before .before .before .before .before .before .before .before in
+    omega (arith, c .good-count .ensures .1, in-loop .before .loop .inv .1, in-loop .loop-test .taken)
 
 add-i : tie.Need-add-i Inv-loop μ-loop
 add-i c = search needs
@@ -88,9 +91,21 @@ loop-less c = search needs
 
 loop-again : tie.Need-loop-again Inv-loop μ-loop
 loop-again c =
+    let in-loop = c .before .before in
+    let loop = in-loop .before .loop in
+    let items = in-loop .before .before .before .before .args .items .now in
+    let i = loop .i in
+    let l = in-loop .loop-test .taken in
     ⊎-elim
-    (λ a. (omega arith, omega (arith, a .7 .ensures .1), λ β. turn-served _ _ (c .before .before .before .before .before .before .args .items .now) _ (c .before .before .before .loop .i) (c .before .before .loop-test .taken) _ (c .before .before .before .loop .good) (omega (arith, a .0 .taken)) (29 * c .before .before .before .loop .i + 29 - (29 * c .before .before .before .loop .i + 1)) (omega arith) _ (a .3 .ensures) _ (a .4 .ensures) (a .5 .result) (a .5 .ensures) _ (a .7 .ensures .0) _ _ (a .8) (a .9) β ∙ c .before .before .before .loop .inv .2 β))
-    (λ a. (omega arith, omega arith, λ β. turn-none _ _ _ _ _ (c .before .before .loop-test .taken) _ _ (omega arith) _ _ (a .1) (a .2) β ∙ c .before .before .before .loop .inv .2 β))
+    (λ a. (
+      omega arith,
+      omega (arith, a .7 .ensures .1),
+      λ β.
+          turn-served items _ i l _ _ _ (loop .good) (omega (arith, a .0 .taken)) (29 * i + 29 - (29 * i + 1)) (omega arith) _ (a .3 .ensures) _
+          (a .4 .ensures) (a .5 .result) (a .5 .ensures) _ (a .7 .ensures .0) _ _ (a .8) (a .9) β
+          ∙ loop .inv .2 β,
+    ))
+    (λ a. (omega arith, omega arith, λ β. turn-none items _ i l _ _ _ _ (omega arith) _ _ (a .1) (a .2) β ∙ loop .inv .2 β))
     (c .if1 .came)
 
 returns : tie.Need-returns Inv-loop μ-loop

@@ -30,11 +30,8 @@ mul-own c = search needs
 array-copy-out-own : tie.Need-array-copy-out-own Inv-loop μ-loop
 array-copy-out-own c = search needs
 
-mul-entry : tie.Need-mul-entry Inv-loop μ-loop
-mul-entry c = search needs
-
-array-copy-out-entry : tie.Need-array-copy-out-entry Inv-loop μ-loop
-array-copy-out-entry c = search needs
+entry-of-requires : tie.Need-entry-of-requires Inv-loop μ-loop
+entry-of-requires c κs = search needs
 
 mul-entries : tie.Need-mul-entries Inv-loop μ-loop
 mul-entries c = search needs
@@ -50,20 +47,25 @@ loop-less c = search needs
 
 loop-again : tie.Need-loop-again Inv-loop μ-loop
 loop-again c =
-    let l = c .before .before .before .before .loop in
-    let a = c .before .before .before .before .before .args in
-    let n = forty (a .t1) in (
+    let l = c .before .before .before .loop in
+    let cs = c .before .before .before .before .args .t1 in
+    let all = entriesOf cs in
+    let n = forty cs in (
       search needs,
-      rw (l .inv .1, add-one) (ap (set (take (l .k) (entriesOf (a .t1)) ++ drop (l .k) (replicate 40 silent)) (l .k)) (sym (entry-of (a .t1) (l .k) (omega arith))) ∙ store-more silent (entriesOf (a .t1)) (replicate 40 silent) (l .k) (omega arith) (omega arith)),
+      rw (l .inv .1, add-one)
+          (ap (set (take (l .k) all ++ drop (l .k) (replicate 40 silent)) (l .k)) (c .entry-of .ensures ∙ sym (entry-of cs (l .k) (omega arith)))
+          ∙ store-more silent all (replicate 40 silent) (l .k) (omega arith) (omega arith)),
       simp length-set (l .inv .2),
     )
 
 returns : tie.Need-returns Inv-loop μ-loop
 returns c =
     let l = c .before .loop in
-    let a = c .before .before .args in
+    let all = entriesOf (c .before .before .args .t1) in
+    let n = forty (c .before .before .args .t1) in
     let e : l .k ≡ 40 = omega arith in
-    l .inv .1 ∙ rw e (ap (λ (x : List Entry). x ++ drop 40 (replicate 40 silent)) (take-all 40 (entriesOf (a .t1)) (rw (forty (a .t1)) (omega arith))) ∙ append-nil (entriesOf (a .t1)))
+    l .inv .1
+    ∙ rw e (ap (λ (x : List Entry). x ++ drop 40 (replicate 40 silent)) (take-all 40 all (rw n (omega arith))) ∙ append-nil all)
 
 pub entries-of-spec : {M : Type 1} → statement M
 entries-of-spec =
@@ -74,8 +76,7 @@ entries-of-spec =
     loop-holds
     mul-own
     array-copy-out-own
-    mul-entry
-    array-copy-out-entry
+    entry-of-requires
     mul-entries
     array-set-from-entries
     add-k

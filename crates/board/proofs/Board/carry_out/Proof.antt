@@ -1,6 +1,6 @@
 -- `board::Board::carry_out` meets its contract. Assumes nothing.
 use denote.Ref.{now}
-use mathlib.Core.Path.{refl, ap, _∙_}
+use mathlib.Core.Path.{refl, ap}
 use Rattle.board.specs.State.{withRun}
 use Rattle.board.proofs.Obeying.{write-long, after-refusal, after-obeyed, after-pass}
 use borrow.Author.Needs.{needs}
@@ -22,17 +22,11 @@ enum-known-c c = search needs
 start-requires : tie.Need-start-requires
 start-requires c κs = search needs
 
-with-run-requires : tie.Need-with-run-requires
-with-run-requires c κs = search needs
-
 enum-told-3 : tie.Need-enum-told-3
 enum-told-3 c = search needs
 
 stop-requires : tie.Need-stop-requires
 stop-requires c κs = search needs
-
-with-run-requires-2 : tie.Need-with-run-requires-2
-with-run-requires-2 c κs = search needs
 
 enum-told-4 : tie.Need-enum-told-4
 enum-told-4 c = search needs
@@ -41,25 +35,57 @@ is-write-requires : tie.Need-is-write-requires
 is-write-requires c κs = search needs
 
 begin-requires : tie.Need-begin-requires
-begin-requires c κs = let a = c .before .before .before .before .before .before .before .args in write-long (a .self) (now (a .words)) (a .answer) (c .before .before .before .before .before .before .before .pre) _ (c .before .before .before .answer .given .1) _ (c .is-write .ensures)
+begin-requires c κs =
+    let told = c .before .before .before in
+    let start = told .before .before .before .before in
+    let a = start .args in
+    write-long (a .self) (now (a .words)) (a .answer) (start .pre) _ (told .answer .given .1) _ (c .is-write .ensures)
 
 returns : tie.Need-returns
-returns c = let a = c .before .before .before .before .args in after-refusal (a .self) (now (a .words)) (a .answer) (c .before .before .before .before .pre) _ (c .enum-told .given .1)
+returns c =
+    let start = c .before .before .before .before in
+    let a = start .args in
+    after-refusal (a .self) (now (a .words)) (a .answer) (start .pre) _ (c .enum-told .given .1)
 
 returns-2 : tie.Need-returns-2
-returns-2 c = let a = c .before .before .before .before .before .before .before .args in after-obeyed (a .self) (now (a .words)) (a .answer) (c .before .before .before .before .before .before .before .pre) _ _ (c .before .before .before .answer .given .1) (c .enum-told2 .given .1) _ (refl)
+returns-2 c =
+    let told = c .before .before .before in
+    let start = told .before .before .before .before in
+    let a = start .args in
+    after-obeyed (a .self) (now (a .words)) (a .answer) (start .pre) _ _ (told .answer .given .1) (c .enum-told2 .given .1) _ refl
 
 returns-3 : tie.Need-returns-3
-returns-3 c = let a = c .before .before .before .before .before .before .before .before .before .before .args in after-obeyed (a .self) (now (a .words)) (a .answer) (c .before .before .before .before .before .before .before .before .before .before .pre) _ _ (c .before .before .before .before .before .before .answer .given .1) (c .before .before .before .c .given .1) _ (c .with-run .ensures ∙ ap (withRun (a .self)) (c .before .start .ensures))
+unfolding withRun
+returns-3 c =
+    let told = c .before .before .before .before .before in
+    let start = told .before .before .before .before in
+    let a = start .args in
+    after-obeyed (a .self) (now (a .words)) (a .answer) (start .pre) _ _ (told .answer .given .1)
+    (c .before .before .c .given .1) _ (ap (withRun (a .self)) (c .start .ensures))
 
 returns-4 : tie.Need-returns-4
-returns-4 c = let a = c .before .before .before .before .before .before .before .before .before .args in after-obeyed (a .self) (now (a .words)) (a .answer) (c .before .before .before .before .before .before .before .before .before .pre) _ _ (c .before .before .before .before .before .answer .given .1) (c .before .before .enum-told3 .given .1) _ (c .with-run2 .ensures ∙ ap (withRun (a .self)) (c .before .stop .ensures))
+unfolding withRun
+returns-4 c =
+    let told = c .before .before .before .before in
+    let start = told .before .before .before .before in
+    let a = start .args in
+    after-obeyed (a .self) (now (a .words)) (a .answer) (start .pre) _ _ (told .answer .given .1)
+    (c .before .enum-told3 .given .1) _ (ap (withRun (a .self)) (c .stop .ensures))
 
 returns-5 : tie.Need-returns-5
-returns-5 c = let a = c .before .before .before .before .before .before .before .args in after-obeyed (a .self) (now (a .words)) (a .answer) (c .before .before .before .before .before .before .before .pre) _ _ (c .before .before .before .answer .given .1) (c .enum-told4 .given .1) _ (refl)
+returns-5 c =
+    let told = c .before .before .before in
+    let start = told .before .before .before .before in
+    let a = start .args in
+    after-obeyed (a .self) (now (a .words)) (a .answer) (start .pre) _ _ (told .answer .given .1) (c .enum-told4 .given .1) _ refl
 
 returns-6 : tie.Need-returns-6
-returns-6 c = let a = c .before .before .before .before .before .before .before .before .args in after-pass (a .self) (now (a .words)) (a .answer) (c .before .before .before .before .before .before .before .before .pre) (c .before .before .before .before .answer .given .0 .0) (c .before .before .before .before .answer .given .1) (c .before .before .match2 .keys5) _ (c .before .is-write .ensures) _ (c .begin .ensures)
+returns-6 c =
+    let told = c .before .before .before .before in
+    let start = told .before .before .before .before in
+    let a = start .args in
+    after-pass (a .self) (now (a .words)) (a .answer) (start .pre) (told .answer .given .0 .0) (told .answer .given .1)
+    (c .before .before .match2 .keys5) _ (c .before .is-write .ensures) _ (c .begin .ensures)
 
 pub carry-out-spec : {M : Type 1} → statement M
 carry-out-spec =
@@ -70,10 +96,8 @@ carry-out-spec =
     enum-told-2
     enum-known-c
     start-requires
-    with-run-requires
     enum-told-3
     stop-requires
-    with-run-requires-2
     enum-told-4
     is-write-requires
     begin-requires

@@ -1,16 +1,37 @@
 -- `board::Board::reply` meets its contract. Assumes nothing.
-use Rattle.board.proofs.Serving.{frame-of, any-heard}
-use Rattle.four_crates.specs.FourCrates.{outstandingOnPaper}
-use mathlib.Core.Path.{sym, ap, _∙_}
+use Prim.Native.Nat.{ℕ, _≤_}
+use mathlib.Core.Path.{_≡_, _∙_, ap}
+use mathlib.Core.Logic.{⊎-elim}
+use native.Mathlib.Omega.{arith}
+use lib.ListN.{set}
+use denote.Ref.{now}
+use Rattle.steps.specs.Steps.{heardIn}
+use Rattle.board.specs.State.{crateAt, withCrates}
+use Rattle.board.specs.SlowControl.{frameAt, Replies}
+use Rattle.board.proofs.Serving.{heard-at, replies-11, replies-crate}
 use borrow.Author.Needs.{needs}
+use Rattle.board.proofs.flags_of.Reads as flags
+use Rattle.steps.proofs.hear_step.Reads as hears
+use Rattle.crate_pass.proofs.Crate.serve.Reads as serves
+use Rattle.board.proofs.Board.reply.Reads as reads
+use Rattle.board.proofs.Board.reply.Lts as lts
 use Rattle.board.proofs.Board.reply.Statement.{statement}
 use Rattle.board.proofs.Board.reply.Tie as tie
 
-outstanding-on-requires : tie.Need-outstanding-on-requires
-outstanding-on-requires c κs = search needs
+flags-of-requires : tie.Need-flags-of-requires
+flags-of-requires c κs = search needs
 
-enum-known-board : tie.Need-enum-known-board
-enum-known-board c = search needs
+element-copy-out-first : tie.Need-element-copy-out-first
+element-copy-out-first c = search needs
+
+element-copy-out-second : tie.Need-element-copy-out-second
+element-copy-out-second c = search needs
+
+element-copy-out-third : tie.Need-element-copy-out-third
+element-copy-out-third c = search needs
+
+element-copy-out-fourth : tie.Need-element-copy-out-fourth
+element-copy-out-fourth c = search needs
 
 slice-aggregate-hear-step : tie.Need-slice-aggregate-hear-step
 slice-aggregate-hear-step c = search needs
@@ -21,32 +42,96 @@ hear-step-requires c κs = search needs
 serve-requires : tie.Need-serve-requires
 serve-requires c κs = search needs
 
-enum-told : tie.Need-enum-told
-enum-told c = search needs
+element-set-from-after : tie.Need-element-set-from-after
+element-set-from-after c = search needs
 
-nothing-heard-requires : tie.Need-nothing-heard-requires
-nothing-heard-requires c κs = search needs
+element-set-from-after-2 : tie.Need-element-set-from-after-2
+element-set-from-after-2 c = search needs
 
-serve-requires-2 : tie.Need-serve-requires-2
-serve-requires-2 c κs = search needs
+element-set-from-after-3 : tie.Need-element-set-from-after-3
+element-set-from-after-3 c = search needs
+
+element-set-from-after-4 : tie.Need-element-set-from-after-4
+element-set-from-after-4 c = search needs
+
+-- the places of the walk: the call, the crate read out of the state, and that crate served
+abbrev Called : Type 0
+Called = lts.Start (flags.Asked, flags.Learnt, hears.Asked, hears.Learnt, serves.Asked, serves.Learnt) reads.Pre reads.Post
+
+abbrev ReadOut : Type 0
+ReadOut = lts.At-match-came (flags.Asked, flags.Learnt, hears.Asked, hears.Learnt, serves.Asked, serves.Learnt) reads.Pre reads.Post
+
+abbrev Served : Type 0
+Served = lts.After-after (flags.Asked, flags.Learnt, hears.Asked, hears.Learnt, serves.Asked, serves.Learnt) reads.Pre reads.Post
+
+abbrev called : ReadOut → Called
+called c = c .before .before .before .before .before .before .before .before
+
+abbrev readOut : Served → ReadOut
+readOut c = c .before .before .before .before
+
+-- the crate read out is the one of that number
+own-is : (c : ReadOut)
+    → called c .args .index ≤ 3 → c .match .own ≡ crateAt (called c .args .t1) (called c .args .index)
+own-is c l =
+    let crate = crateAt (called c .args .t1) in
+    let i = called c .args .index in
+    ⊎-elim (λ w. let e : 0 ≡ i = omega arith in w .1 ∙ ap crate e)
+    (⊎-elim (λ w. let e : 1 ≡ i = omega arith in w .1 ∙ ap crate e)
+    (⊎-elim (λ w. let e : 2 ≡ i = omega arith in w .1 ∙ ap crate e) (λ w. let e : 3 ≡ i = omega arith in w .1 ∙ ap crate e)))
+    (c .match .came)
+
+-- it is served, and stored at its place j
+stored : (c : Served) (j : ℕ) → called (readOut c) .args .index ≡ j → j ≤ 3
+    → let a = called (readOut c) .args in
+    Replies (a .t1) (a .index) (heardIn (frameAt (a .t1) (a .index)) (now (a .bytes)))
+    (record { board = withCrates (a .t1) (set (a .t1 .crates) j (c .before .serve .result .state)); answer = c .before .serve .result .answer })
+stored c j e l =
+    let a = called (readOut c) .args in
+    let own = own-is (readOut c) (omega arith) in
+    let said = heard-at (a .t1) (a .index) _ _ _ (c .before .before .hear-step .ensures) own in
+    replies-crate (a .t1) (a .index) _ _ _ _ (rw said at (c .before .serve .ensures))
+    j e l own (readOut c .before .before .before .before .before .flags-of .ensures)
 
 returns : tie.Need-returns
-returns c = rw (c .before .hear-step .ensures, frame-of (c .before .before .before .before .before .before .before .before .before .before .args .self) (c .before .before .before .before .before .before .before .before .before .before .args .index) _ _ (sym (ap outstandingOnPaper (c .before .before .before .before .board .given .1)) ∙ c .before .before .before .before .before .before .outstanding-on .ensures)) at (c .serve .ensures)
+unfolding withCrates
+returns c = stored (c .before) 0 (omega arith) (omega arith)
 
 returns-2 : tie.Need-returns-2
-returns-2 c = any-heard (c .before .before .before .before .before .before .before .before .args .self) (c .before .before .before .before .before .before .before .before .args .index) (c .before .before .enum-told .given .0 .0) (sym (ap outstandingOnPaper (c .before .before .enum-told .given .1)) ∙ c .before .before .before .before .outstanding-on .ensures) _ _ _ (c .serve2 .ensures)
+unfolding withCrates
+returns-2 c = stored (c .before) 1 (omega arith) (omega arith)
+
+returns-3 : tie.Need-returns-3
+unfolding withCrates
+returns-3 c = stored (c .before) 2 (omega arith) (omega arith)
+
+returns-4 : tie.Need-returns-4
+unfolding withCrates
+returns-4 c = stored (c .before) 3 (omega arith) (omega arith)
+
+returns-5 : tie.Need-returns-5
+returns-5 c =
+    let a = called (readOut (c .before)) .args in
+    replies-11 (a .t1) (a .index) _ (omega arith)
 
 pub reply-spec : {M : Type 1} → statement M
 reply-spec =
     tie.close
     (tie.spec
-    outstanding-on-requires
-    enum-known-board
+    flags-of-requires
+    element-copy-out-first
+    element-copy-out-second
+    element-copy-out-third
+    element-copy-out-fourth
     slice-aggregate-hear-step
     hear-step-requires
     serve-requires
-    enum-told
-    nothing-heard-requires
-    serve-requires-2
+    element-set-from-after
+    element-set-from-after-2
+    element-set-from-after-3
+    element-set-from-after-4
     returns
-    returns-2)
+    returns-2
+    returns-3
+    returns-4
+    returns-5)

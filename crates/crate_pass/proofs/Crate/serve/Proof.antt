@@ -1,29 +1,91 @@
 -- `crate_pass::Crate::serve` meets its contract. Assumes nothing.
-use mathlib.Core.Logic.{⊎-elim}
-use mathlib.Core.Path.{sym, _∙_}
-use borrow.Author.Tests.{leb-false}
 use borrow.Author.Needs.{needs}
-use Rattle.crate_pass.proofs.Serving.{serves-none, serves-moved, moved-good, moved-bad}
+use borrow.Author.Tests.{le-leb}
+use Rattle.crate_pass.proofs.Serving.{serves-none, serves-noted, serves-good, serves-again, serves-failed}
 use Rattle.crate_pass.proofs.Crate.serve.Statement.{statement}
 use Rattle.crate_pass.proofs.Crate.serve.Tie as tie
 
-is-done-requires : tie.Need-is-done-requires
-is-done-requires c κs = search needs
-
 returns : tie.Need-returns
-returns c = serves-none _ _ _ _ (sym (c .before .is-done .ensures) ∙ c .if1 .taken)
+returns c = serves-none _ _ _ _ (le-leb _ _ (c .if1 .taken))
 
-pass-requires : tie.Need-pass-requires
-pass-requires c κs = leb-false _ _ (sym (c .before .before .is-done .ensures) ∙ c .before .if1 .left)
+cast-at : tie.Need-cast-at
+cast-at c = search needs
 
-miss-requires : tie.Need-miss-requires
-miss-requires c κs = leb-false _ _ (sym (c .before .before .is-done .ensures) ∙ c .before .if1 .left)
+place-after-requires : tie.Need-place-after-requires
+place-after-requires c κs = search needs
+
+count-frame-requires : tie.Need-count-frame-requires
+count-frame-requires c κs = search needs
+
+mul-self : tie.Need-mul-self
+mul-self c = search needs
+
+element-write-self : tie.Need-element-write-self
+element-write-self c = search needs
+
+calls-at-requires : tie.Need-calls-at-requires
+calls-at-requires c κs = search needs
+
+element-write-self-2 : tie.Need-element-write-self-2
+element-write-self-2 c = search needs
+
+element-write-self-3 : tie.Need-element-write-self-3
+element-write-self-3 c = search needs
 
 returns-2 : tie.Need-returns-2
 returns-2 c =
-    let d = sym (c .before .before .before .is-done .ensures) ∙ c .before .before .if1 .left in
-    serves-moved _ _ _ _ (c .before .if2 .moved) d
-    (⊎-elim (λ w. w .2 ∙ w .1 .ensures ∙ moved-good _ _ _ _ (w .0 .taken)) (λ w. w .2 ∙ w .1 .ensures ∙ moved-bad _ _ _ _ (w .0 .left)) (c .before .if2 .came))
+    let counted = c .before .before .before in
+    let moved = counted .before .before in
+    let begun = moved .before in
+    let a = begun .before .args in
+    serves-noted (a .kind) (a .word) (a .t1) (a .heard) (begun .if1 .left) (moved .place-after .result) (moved .place-after .ensures)
+    (counted .count-frame .result) (counted .count-frame .ensures) (c .calls-at .result) (c .calls-at .ensures) (c .before .before .if2 .taken) (c .before .if3 .taken)
+
+returns-3 : tie.Need-returns-3
+returns-3 c =
+    let counted = c .before .before in
+    let moved = counted .before .before in
+    let begun = moved .before in
+    let a = begun .before .args in
+    serves-good (a .kind) (a .word) (a .t1) (a .heard) (begun .if1 .left) (moved .place-after .result) (moved .place-after .ensures)
+    (counted .count-frame .result) (counted .count-frame .ensures) (c .before .if2 .taken) (c .if3 .left)
+
+returns-4 : tie.Need-returns-4
+returns-4 c =
+    let counted = c .before .before in
+    let moved = counted .before .before in
+    let begun = moved .before in
+    let a = begun .before .args in
+    serves-again (a .kind) (a .word) (a .t1) (a .heard) (begun .if1 .left) (moved .place-after .result) (moved .place-after .ensures)
+    (counted .count-frame .result) (counted .count-frame .ensures) (c .before .if2 .left) (c .if4 .taken)
+
+element-write-self-4 : tie.Need-element-write-self-4
+element-write-self-4 c = search needs
+
+returns-5 : tie.Need-returns-5
+returns-5 c =
+    let counted = c .before .before in
+    let moved = counted .before .before in
+    let begun = moved .before in
+    let a = begun .before .args in
+    serves-failed (a .kind) (a .word) (a .t1) (a .heard) (begun .if1 .left) (moved .place-after .result) (moved .place-after .ensures)
+    (counted .count-frame .result) (counted .count-frame .ensures) (c .before .if2 .left) (c .if4 .left)
 
 pub serve-spec : {M : Type 1} → statement M
-serve-spec = tie.close (tie.spec is-done-requires returns pass-requires miss-requires returns-2)
+serve-spec =
+    tie.close
+    (tie.spec
+    returns
+    cast-at
+    place-after-requires
+    count-frame-requires
+    mul-self
+    element-write-self
+    calls-at-requires
+    element-write-self-2
+    element-write-self-3
+    returns-2
+    returns-3
+    returns-4
+    element-write-self-4
+    returns-5)

@@ -27,7 +27,8 @@ stop-requires c κs = search needs
 
 -- after the match the code holds which run it is, and whether this trigger is its last
 told : (c : lts.At-match-came (stop-reads.Asked, stop-reads.Learnt) reads.Pre reads.Post)
-    → (c .match .running ≡ c .before .before .args .self .running) × (c .match .last ≡ isLast (c .before .before .args .self .running) (triggerNumber (c .before .before .args .self)))
+    → let self = c .before .before .args .self in
+    (c .match .running ≡ self .running) × (c .match .last ≡ isLast (self .running) (triggerNumber self))
 told c =
     ⊎-elim (λ w. (w .2, rw (w .1 .given .1) (w .3)))
     (⊎-elim (λ w. (w .2, rw (w .1 .given .1) (w .3))) (λ w. (w .3 ∙ sym (w .1 .given .1), rw (w .1 .given .1) (w .4))))

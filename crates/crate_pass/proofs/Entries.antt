@@ -1,0 +1,45 @@
+-- A crate's part of the FTU list: the entry of each board, an entry that is stored, and the list as a pass begins.
+-- Assumes nothing.
+use Prim.Native.Nat.{ℕ, zero, suc, _<_}
+use mathlib.Core.Path.{_≡_, refl, ap}
+use mathlib.Core.List.{List, [], _∷_}
+use native.Mathlib.Omega.{arith}
+use lib.ListN.{length, getD, set, replicate}
+use Rattle.ftu_list.specs.declared.Entry.{Entry}
+use Rattle.crate_pass.specs.declared.PassKind.the-variants.{Reprogramming, Ping}
+use Rattle.crate_pass.specs.declared.Crate.{Crate}
+use Rattle.crate_pass.specs.Crate.{silent, entriesFrom, entriesIn, begunCrate}
+
+abbrev pub entry : ℕ → ℕ → ℕ → Entry
+entry d n e = record { dna = d; calls = n; «crc_errors» = e }
+
+-- the entry of board i has its three numbers
+pub entry-at : (dna calls errors : List ℕ) (i : ℕ) → i < length dna → i < length calls → i < length errors
+    → entry (getD dna i 0) (getD calls i 0) (getD errors i 0) ≡ getD (entriesFrom dna calls errors) i silent
+unfolding entriesFrom
+entry-at [] calls errors i a b c = absurd (let z : ⊥ = omega arith in z)
+entry-at (d ∷ dna) [] errors i a b c = absurd (let z : ⊥ = omega arith in z)
+entry-at (d ∷ dna) (n ∷ calls) [] i a b c = absurd (let z : ⊥ = omega arith in z)
+entry-at (d ∷ dna) (n ∷ calls) (e ∷ errors) zero a b c = refl
+entry-at (d ∷ dna) (n ∷ calls) (e ∷ errors) (suc i) a b c = entry-at dna calls errors i (omega arith) (omega arith) (omega arith)
+
+-- three numbers stored at i are an entry stored there
+pub entries-set : (dna calls errors : List ℕ) (i d n e : ℕ)
+    → entriesFrom (set dna i d) (set calls i n) (set errors i e) ≡ set (entriesFrom dna calls errors) i (entry d n e)
+unfolding entriesFrom
+entries-set [] calls errors i d n e = refl
+entries-set (x ∷ dna) [] errors zero d n e = refl
+entries-set (x ∷ dna) [] errors (suc i) d n e = refl
+entries-set (x ∷ dna) (y ∷ calls) [] zero d n e = refl
+entries-set (x ∷ dna) (y ∷ calls) [] (suc i) d n e = refl
+entries-set (x ∷ dna) (y ∷ calls) (z ∷ errors) zero d n e = refl
+entries-set (x ∷ dna) (y ∷ calls) (z ∷ errors) (suc i) d n e = ap (λ l. entry x y z ∷ l) (entries-set dna calls errors i d n e)
+
+-- "A ping clears the list as it begins; no other command changes it"
+pub entries-cleared : (w : ℕ) (k : Crate) → entriesIn (begunCrate Ping w k) ≡ replicate 10 silent
+unfolding begunCrate entriesFrom
+entries-cleared w k = refl
+
+pub entries-kept : (w : ℕ) (k : Crate) → entriesIn (begunCrate Reprogramming w k) ≡ entriesIn k
+unfolding begunCrate
+entries-kept w k = refl
