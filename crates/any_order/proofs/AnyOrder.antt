@@ -23,7 +23,8 @@ use Rattle.board.specs.declared.Board.{Board}
 use Rattle.cells.specs.Order.{only, from, ordered}
 use Rattle.cells.proofs.Cells.{turned, in-order-out, in-order-end, out-from}
 use Rattle.any_order.specs.Steps.{Event, Out, refusal, opened}
-use Rattle.any_order.specs.AnyOrder.{Item, Entry, crateOf, crateOfEntry, trace, final, wordOf, lineOf, openedOn, endOn, doneOn, answeredOn, refusedAll, AnyOrder, beginsPass}
+use Rattle.any_order.specs.AnyOrder.{Item, Entry, crateOf, crateOfEntry, trace, final, wordOf}
+use Rattle.any_order.specs.AnyOrder.{lineOf, openedOn, endOn, doneOn, answeredOn, refusedAll, AnyOrder, beginsPass}
 use Rattle.any_order.proofs.Served.{crateStep, endCells, outCells}
 use Rattle.any_order.proofs.Begun.{Begun, begun-after}
 use Rattle.any_order.proofs.OneCrate.{final-is, trace-is, done-is, list-is, alone}

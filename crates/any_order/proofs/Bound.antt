@@ -13,7 +13,8 @@ use Rattle.crate_pass.specs.Crate.{serves}
 use Rattle.crate_pass.specs.declared.PassKind.{PassKind}
 use Rattle.crate_pass.specs.declared.PassKind.the-variants.{Reprogramming, Ping}
 use Rattle.crate_pass.specs.declared.Outcome.the-variants.{Good, Again, BoardFailed}
-use Rattle.any_order.specs.Steps.{Step, boardSteps, stepsFrom, steps, servedFrom, Event, heard, Pass, Out, first, others, entriesWith, opened, movedOn, sentAgain, says, reactTo, react}
+use Rattle.any_order.specs.Steps.{Step, boardSteps, stepsFrom, steps, servedFrom, Event, heard, Pass, Out}
+use Rattle.any_order.specs.Steps.{first, others, entriesWith, opened, movedOn, sentAgain, says, reactTo, react}
 use Rattle.any_order.specs.AnyOrder.{Item, accepted, passEnd, passTrace, framesIn, acceptedIn, mostFrames}
 
 -- ---- at most three frames for each step

@@ -48,7 +48,8 @@ length-end line p (x ∷ xs) = length-end line (react line (x .1) p .1) xs ∙ l
 
 -- ---- the entries of the list are those of crate 0, then those of 1, 2 and 3
 
-crate-entries : (cs : List Crate) (c n j : ℕ) → j + n ≡ 10 → length (entriesIn (crateOf cs c)) ≡ 10 → entriesFrom cs n (10 * c + j) ≡ drop j (entriesIn (crateOf cs c))
+crate-entries : (cs : List Crate) (c n j : ℕ) → j + n ≡ 10 → length (entriesIn (crateOf cs c)) ≡ 10
+    → entriesFrom cs n (10 * c + j) ≡ drop j (entriesIn (crateOf cs c))
 crate-entries cs c zero j h l = sym (drop-of-length-le (entriesIn (crateOf cs c)) {i = j} (omega arith))
 crate-entries cs c (suc n) j h l =
     let crate : (10 * c + j) / 10 ≡ c = omega arith in

@@ -20,7 +20,8 @@ use Rattle.crate_pass.specs.declared.PassKind.the-variants.{Reprogramming, Ping
 use Rattle.crate_pass.specs.declared.Outcome.{Outcome}
 use Rattle.crate_pass.specs.declared.Outcome.the-variants.{Good, Again, BoardFailed}
 use Rattle.crate_pass.specs.declared.Crate.{Crate}
-use Rattle.any_order.specs.Steps.{Step, step, boardSteps, stepsFrom, steps, Event, heard, Pass, Out, refusal, first, none, others, entryOf, entriesWith, opened, movedOn, sentAgain, says, reactTo, react}
+use Rattle.any_order.specs.Steps.{Step, step, boardSteps, stepsFrom, steps, Event, heard, Pass, Out, refusal}
+use Rattle.any_order.specs.Steps.{first, none, others, entryOf, entriesWith, opened, movedOn, sentAgain, says, reactTo, react}
 use Rattle.any_order.specs.AnyOrder.{sentAfter, stepOf}
 
 -- ---- the steps that a place stands for
@@ -181,7 +182,8 @@ counted-first kind w b code n r = go (place b)
     go (past h) = rw (le-ltb _ _ h, todo-done kind w b code h) (omega arith)
 
 module _ (kind : PassKind) (w : ℕ) where
-  view-placed : (k : Crate) (b code : ℕ) → k .sent < 65535 → view kind w (placed k b code 0) ≡ movedOn (view kind w k) (todoAt kind w b code) (k .failed) (entriesIn k)
+  view-placed : (k : Crate) (b code : ℕ) → k .sent < 65535
+      → view kind w (placed k b code 0) ≡ movedOn (view kind w k) (todoAt kind w b code) (k .failed) (entriesIn k)
   unfolding view placed movedOn
   view-placed k b code r = rw (counted-first kind w b code (k .sent) r)
 
@@ -226,12 +228,14 @@ view-stepped four w k e h r = view-high _ w k (omega arith) h r
 
 -- a failed board's other steps are dropped
 view-marked : (kind : PassKind) (w : ℕ) (k : Crate) → k .board < 10 → k .sent < 65535
-    → view kind w (advanced kind w (marked k)) ≡ movedOn (view kind w k) (stepsFrom kind w (10 - (k .board + 1)) (k .board + 1)) (set (k .failed) (k .board) (k .code)) (entriesIn k)
+    → view kind w (advanced kind w (marked k))
+    ≡ movedOn (view kind w k) (stepsFrom kind w (10 - (k .board + 1)) (k .board + 1)) (set (k .failed) (k .board) (k .code)) (entriesIn k)
 unfolding marked movedOn view
 view-marked kind w k h r = view-advanced kind w (marked k) h r
 
 view-failed : {kind : PassKind} {code : ℕ} → Code kind code → (w : ℕ) (k : Crate) → k .code ≡ code → k .board < 10 → k .sent < 65535
-    → view kind w (advanced kind w (marked k)) ≡ movedOn (view kind w k) (others (k .board) (later kind w (k .board) code)) (set (k .failed) (k .board) (k .code)) (entriesIn k)
+    → view kind w (advanced kind w (marked k))
+    ≡ movedOn (view kind w k) (others (k .board) (later kind w (k .board) code)) (set (k .failed) (k .board) (k .code)) (entriesIn k)
 view-failed {kind} {code} q w k e h r =
     view-marked kind w k h r
     ∙ ap (λ l. movedOn (view kind w k) l (set (k .failed) (k .board) (k .code)) (entriesIn k)) (sym (others-later q w (k .board)))

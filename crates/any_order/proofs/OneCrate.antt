@@ -18,7 +18,8 @@ use Rattle.board.specs.declared.Board.{Board}
 use Rattle.cells.specs.Order.{only}
 use Rattle.cells.proofs.Cells.{endAlone, end-at, out-at}
 use Rattle.any_order.specs.Steps.{Step, steps, Pass, refusal, first, none, opened}
-use Rattle.any_order.specs.AnyOrder.{Item, crateOf, crateOfEntry, fetched, trace, final, passTrace, passEnd, wordOf, lineOf, openedOn, endOn, framesIn, framesOn, acceptedIn, mostFrames, stepOf, Alone}
+use Rattle.any_order.specs.AnyOrder.{Item, crateOf, crateOfEntry, fetched, trace, final, passTrace, passEnd, wordOf}
+use Rattle.any_order.specs.AnyOrder.{lineOf, openedOn, endOn, framesIn, framesOn, acceptedIn, mostFrames, stepOf, Alone}
 use Rattle.any_order.proofs.Cursor.{Code, view, view-first, view-none, view-begun, code-begun}
 use Rattle.any_order.proofs.Bound.{Bound, bound-opened, sent-bounded, sent-frames, sent-accepted}
 use Rattle.any_order.proofs.Fetch.{fetched-step}
@@ -54,7 +55,8 @@ module _ (start : Board) (b : Begun start) where
   runs-start c h =
       record {
         code = subst (λ (k : Crate). Code (start .kind) (k .code)) (sym (b .begun c h)) (code-begun (start .kind) (wordOf start c) (b .before c));
-        bound = subst (Bound (length (steps (start .kind) (wordOf start c)))) (sym (view-start c h)) (bound-opened (steps (start .kind) (wordOf start c)) (entriesIn (crateAt start c)));
+        bound = subst (Bound (length (steps (start .kind) (wordOf start c)))) (sym (view-start c h))
+            (bound-opened (steps (start .kind) (wordOf start c)) (entriesIn (crateAt start c)));
       }
 
   module _ (xs : List Item) (c : ℕ) (h : c < 4) where

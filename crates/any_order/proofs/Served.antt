@@ -21,7 +21,8 @@ use Rattle.board.specs.State.{crateAt, withCrates}
 use Rattle.board.specs.SlowControl.{frameAt, movedAt, replyAnswer, afterReply, boardReplied}
 use Rattle.board.specs.declared.Board.{Board}
 use Rattle.any_order.specs.Steps.{Step, steps, Event, heard, Pass, Out, refusal, react}
-use Rattle.any_order.specs.AnyOrder.{Item, Entry, crateOf, afterItem, heardOn, outOf, fetched, sentAfter, trace, final, passTrace, passEnd, lineOf, wordOf, stepOf}
+use Rattle.any_order.specs.AnyOrder.{Item, Entry, crateOf, afterItem, heardOn, outOf, fetched}
+use Rattle.any_order.specs.AnyOrder.{sentAfter, trace, final, passTrace, passEnd, lineOf, wordOf, stepOf}
 use Rattle.cells.proofs.Order.{Side, low, high, side}
 use Rattle.cells.proofs.Cells.{one, end, out, endAlone, outAlone, one-high, one-low, one-length}
 use Rattle.board.proofs.Serving.{answer-high, board-high, answer-low, board-low}

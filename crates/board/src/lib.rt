@@ -78,9 +78,9 @@ pub enum PowerUp {
 }
 
 pub struct PoweredUp {
-    pub answer: PowerUp,
     // No board of the caller's where power-up is refused: one of ID 0.
     pub board: Board,
+    pub answer: PowerUp,
 }
 
 pub struct Obedience {
@@ -107,15 +107,15 @@ fn fresh_board(board_id: u64, firmware_id: u16) -> Board
     let run = run_at_power_up();
     let k = crate_at_power_up();
     Board {
+        block: [0; 436],
+        crates: [k; 4],
+        active: [0; 4],
+        kind: PassKind::Reprogramming,
         identity: Identity {
             board_id,
             firmware_id,
         },
         run,
-        block: [0; 436],
-        kind: PassKind::Reprogramming,
-        active: [0; 4],
-        crates: [k; 4],
     }
 }
 
@@ -125,13 +125,13 @@ pub fn power_up(board_id: u64, firmware_id: u16) -> PoweredUp
 {
     if 144115188075855872 <= board_id {
         return PoweredUp {
-            answer: PowerUp::Refused(Refusal::WrongHeader),
             board: fresh_board(0, 0),
+            answer: PowerUp::Refused(Refusal::WrongHeader),
         };
     }
     PoweredUp {
-        answer: PowerUp::Up,
         board: fresh_board(board_id, firmware_id),
+        answer: PowerUp::Up,
     }
 }
 
@@ -306,12 +306,13 @@ impl Board {
         let answer = t.answer;
         let next = t.run;
         TriggeredOn {
-            answer,
             board: self.with_run(next),
+            answer,
         }
     }
 
-    // A reply, of any length, on a crate. (One way out and constant places, so that little of the board is copied.)
+    // A reply, of any length, on a crate. One way out and constant places, so that little of the board is copied. (Where there is no such
+    // crate, the fourth is served, and what came of it is dropped.)
     pub fn reply(mut self, index: u8, bytes: &[u8]) -> Replied
         ensures { λ r. ⌜ Replies self index (heardIn (frameAt self index) (now (bytes .entry))) r ⌝ }
     {
@@ -345,7 +346,7 @@ impl Board {
         }
     }
 
-    // A time-up on a crate.
+    // A time-up on a crate, in the same way.
     pub fn time_up(mut self, index: u8) -> Replied
         ensures { λ r. ⌜ Replies self index silence r ⌝ }
     {

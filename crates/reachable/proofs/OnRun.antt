@@ -99,7 +99,8 @@ holds-trigger β f out h = go (triggerAnswer (β .run) f out) refl
     go : (a : Answer ℕ) → triggerAnswer (β .run) f out ≡ a → Holds (withRun β (afterAnswer (β .run) a))
     go (given n) e =
         holds-run β (afterTrigger (β .run)) h (counters-after (β .run) (counters-of β h) (room (β .run) f out n e))
-        (and-false (isRunning (afterTrigger (β .run))) (inPass (β .crates)) (running-apart (isRunning (β .run)) (inPass (β .crates)) (h .reaches .apart) (accepted-running (β .run) f out n e)))
+        (and-false (isRunning (afterTrigger (β .run))) (inPass (β .crates))
+        (running-apart (isRunning (β .run)) (inPass (β .crates)) (h .reaches .apart) (accepted-running (β .run) f out n e)))
     go (refused n p) e = h
 
 -- ---- starts and stops

@@ -39,7 +39,8 @@ returns-2 c =
     let begun = moved .before in
     let a = begun .before .args in
     serves-noted (a .kind) (a .word) (a .t1) (a .heard) (begun .if1 .left) (moved .place-after .result) (moved .place-after .ensures)
-    (counted .count-frame .result) (counted .count-frame .ensures) (c .calls-at .result) (c .calls-at .ensures) (c .before .before .if2 .taken) (c .before .if3 .taken)
+    (counted .count-frame .result) (counted .count-frame .ensures) (c .calls-at .result) (c .calls-at .ensures)
+    (c .before .before .if2 .taken) (c .before .if3 .taken)
 
 returns-3 : tie.Need-returns-3
 returns-3 c =
