@@ -244,9 +244,11 @@ fn single_calls(write: &[u16], writes: &[u8], pings: &[u8]) {
         times(20, proved, || plain::triggers(black_box(&run), black_box(&mut again)))
     });
     single("a trigger", 1000, whole, before);
-    for (what, words, calls) in
-        [("the obeying of a read", &READ.repeat(100)[..], 100), ("an accepted write", write, 1)]
-    {
+    for (what, words, calls) in [
+        ("the obeying of a read", &READ.repeat(100)[..], 100),
+        ("an accepted write, 40 boards active", write, 1),
+        ("an accepted write, no board active", &run[..441].repeat(10), 10),
+    ] {
         let [whole, before] = [calls, 0].map(|count| {
             let proved = || exports::commands(black_box(words), black_box(count));
             times(200, proved, || plain::commands(black_box(words), black_box(count)))
