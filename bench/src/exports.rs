@@ -8,7 +8,14 @@ extern "C" {
     fn ftm_pass(words: *const u16, length: usize, items: *const u8, items_length: usize) -> u64;
     fn ftm_replies(words: *const u16, length: usize, items: *const u8, items_length: usize) -> u64;
     fn ftm_time_ups(words: *const u16, length: usize, crates: *const u8, count: usize) -> u64;
-    fn ftm_clock_steps(words: *const u16, length: usize, ticks: *const u32, count: usize) -> u64;
+    fn ftm_clock_steps(
+        words: *const u16,
+        length: usize,
+        ticks: *const u32,
+        count: usize,
+        out: *mut u64,
+        out_length: usize,
+    ) -> u64;
     fn ftm_triggers(words: *const u16, length: usize, out: *mut u8, out_length: usize) -> u64;
     fn ftm_packets(bytes: *const u8, length: usize) -> u64;
     fn ftm_static(block: *const u16, length: usize, out: *mut u16, out_length: usize) -> u8;
@@ -38,8 +45,10 @@ pub fn time_ups(words: &[u16], crates: &[u8]) -> u64 {
     unsafe { ftm_time_ups(words.as_ptr(), words.len(), crates.as_ptr(), crates.len()) }
 }
 
-pub fn clock_steps(words: &[u16], ticks: &[u32]) -> u64 {
-    unsafe { ftm_clock_steps(words.as_ptr(), words.len(), ticks.as_ptr(), ticks.len()) }
+pub fn clock_steps(words: &[u16], ticks: &[u32], out: &mut [u64]) -> u64 {
+    let (words, length) = (words.as_ptr(), words.len());
+    let (steps, count) = (ticks.as_ptr(), ticks.len());
+    unsafe { ftm_clock_steps(words, length, steps, count, out.as_mut_ptr(), out.len()) }
 }
 
 pub fn triggers(words: &[u16], out: &mut [u8]) -> u64 {

@@ -60,12 +60,16 @@ mod plain {
         crates.iter().filter(|&&crate_number| board.time_up(crate_number).is_ok()).count() as u64
     }
 
-    pub fn clock_steps(words: &[u16], ticks: &[u32]) -> u64 {
+    /// The timestamps after clock steps, and the on-time then, out of a dynamic block.
+    pub fn clock_steps(words: &[u16], ticks: &[u32], out: &mut [u64]) -> u64 {
         let (mut board, _) = obeyed(words, 2);
-        for &step in ticks {
+        for (&step, timestamp) in ticks.iter().zip(out) {
             board.clock(step);
+            *timestamp = board.header().timestamp;
         }
-        board.header().timestamp
+        let mut block = [0; 498];
+        board.dynamic_block(&[0; 484], &mut block).expect("a dynamic block has 498 words");
+        block[11..14].iter().fold(0, |on_time, &word| on_time << 16 | u64::from(word))
     }
 
     pub fn triggers(words: &[u16], out: &mut [u8]) -> u64 {
@@ -234,8 +238,12 @@ fn single_calls(write: &[u16], writes: &[u8], pings: &[u8]) {
     let run = run_commands();
     let ticks: Vec<u32> = (0..1000).collect();
     let [whole, before] = [&ticks[..], &[]].map(|ticks| {
-        let proved = || exports::clock_steps(black_box(&run), black_box(ticks));
-        times(50, proved, || plain::clock_steps(black_box(&run), black_box(ticks)))
+        let (mut steps, mut again) = (vec![0; ticks.len()], vec![0; ticks.len()]);
+        let proved = || exports::clock_steps(black_box(&run), black_box(ticks), &mut steps);
+        let plain = || plain::clock_steps(black_box(&run), black_box(ticks), &mut again);
+        let best = times(50, proved, plain);
+        assert_eq!(steps, again);
+        best
     });
     single("a clock step", ticks.len(), whole, before);
     let [whole, before] = [1000, 0].map(|count| {

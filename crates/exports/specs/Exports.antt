@@ -97,6 +97,17 @@ unfoldable pub clockedAll : Board → List ℕ → Board
 clockedAll β [] = β
 clockedAll β (t ∷ ts) = clockedAll (withRun β (clockedRun (β .run) t)) ts
 
+-- the timestamps after each of them
+unfoldable pub timestampsOf : Board → List ℕ → List ℕ
+timestampsOf β [] = []
+timestampsOf β (t ∷ ts) = clockedRun (β .run) t .timestamp ∷ timestampsOf (withRun β (clockedRun (β .run) t)) ts
+
+-- on a board β as many of the steps were made as the lent numbers `out` have room for: the timestamps after them stand there, and r is the
+-- on-time
+pub record MakesSteps (β : Board) (ticks out : List ℕ) (r : ℕ) (after : List ℕ) : Type 0 where
+  pub onTime : r ≡ clockedAll β (take (length out) ticks) .run .«on_time»
+  pub timestamps : after ≡ timestampsOf β (take (length out) ticks) ++ drop (length (timestampsOf β (take (length out) ticks))) out
+
 -- ---- triggers
 
 -- n = 4, and all else zero

@@ -6,7 +6,7 @@ ghost use Rattle.packets.specs.Packets.{packetAnswer};
 ghost use Rattle.crate_pass.specs.Crate.{replyOnPaper};
 ghost use Rattle.acceptance.specs.Acceptance.{answerOnPaper};
 ghost use Rattle.board.specs.State.{freshBoard};
-ghost use Rattle.exports.specs.Exports.{isGiven, commandGiven, acceptedOf, afterOne, afterTwo, goodOutcome, passOf, servedOf, clockedAll};
+ghost use Rattle.exports.specs.Exports.{isGiven, commandGiven, acceptedOf, afterOne, afterTwo, goodOutcome, passOf, servedOf, MakesSteps};
 ghost use Rattle.exports.specs.Exports.{GivesTriggers, goodPackets, StaticRound};
 ghost use Rattle.exports.specs.Parts.{CountsGood, ObeysAll};
 use acceptance::CommandAnswer;
@@ -202,20 +202,27 @@ pub extern "C" fn ftm_time_ups(words: &[u16], crates: &[u8]) -> u64
     served
 }
 
-// On a fresh board: obeys two commands of the words, then makes the clock steps, of so many ticks each. The timestamp then.
+// On a fresh board: obeys two commands of the words, then makes the clock steps, of so many ticks each, as many as the lent numbers have
+// room for, and writes the timestamp after each. The on-time then.
 #[no_mangle]
-pub extern "C" fn ftm_clock_steps(words: &[u16], ticks: &[u32]) -> u64
-    ensures { λ r. ⌜ r ≡ clockedAll (afterTwo (now (words .entry))) (now (ticks .entry)) .run .timestamp ⌝ }
+pub extern "C" fn ftm_clock_steps(words: &[u16], ticks: &[u32], out: &mut [u64]) -> u64
+    ensures { λ r. ⌜ MakesSteps (afterTwo (now (words .entry))) (now (ticks .entry)) (now (out .entry)) r (now (out .exit)) ⌝ }
 {
     let done = obeyed(words, 2);
     let mut board = done.board;
     let mut i = 0;
     while i < ticks.len() {
+        if out.len() <= i {
+            let run = board.run;
+            return run.on_time;
+        }
         board = board.clock(ticks[i]);
+        let run = board.run;
+        out[i] = run.timestamp;
         i += 1;
     }
     let run = board.run;
-    run.timestamp
+    run.on_time
 }
 
 // On a fresh board: obeys two commands of the words, then gives triggers of n = 4, whose packets go into the lent bytes one after another,
