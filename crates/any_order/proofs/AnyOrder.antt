@@ -1,123 +1,110 @@
 -- Demand 3 (`demand-3`): after an accepted write or ping, any order of replies and time-ups gets what the crates get one by one.
 -- Assumes nothing.
-use Prim.Native.Nat.{ℕ, _+_, _<_}
+use Prim.Native.Nat.{ℕ, _<_, _≤_}
 use mathlib.Core.Path.{_≡_, refl, sym, ap, ap₂, _∙_, subst}
-use mathlib.Core.List.{List, [], _∷_}
-use mathlib.Core.Bool.{Bool, true, false, not, _&&_, _||_}
+use mathlib.Core.List.{List, [], _∷_, _++_}
+use mathlib.Core.Bool.{Bool, true, false, not, _&&_}
 use native.Mathlib.Omega.{arith}
-use lib.ListN.{length, take}
-use Rattle.refusals.specs.Tables.{given}
-use Rattle.commands.specs.declared.Command.{Command}
-use Rattle.commands.specs.declared.Command.the-variants.{Ping}
-use Rattle.ftu_list.specs.List.{answered, listBody}
+use lib.ListN.{length}
+use borrow.Author.Tests.{ltb-true, ltb-false}
+use lib.Dec.{ltb}
 use Rattle.run.specs.Run.{isRunning}
-use Rattle.crate_pass.specs.Crate.{entriesIn, isDone, begunCrate}
-use Rattle.crate_pass.proofs.Entries.{entries-cleared}
-use Rattle.crate_pass.specs.declared.PassKind.{PassKind}
 use Rattle.crate_pass.specs.declared.Crate.{Crate}
 use Rattle.four_crates.specs.FourCrates.{noCrate, inPass}
-use Rattle.board.specs.State.{crateAt, isIdle, withCrates}
-use Rattle.board.specs.Commands.{boardAnswer, boardAfter}
-use Rattle.board.specs.SentOut.{listOf}
+use Rattle.board.specs.State.{isIdle}
 use Rattle.board.specs.declared.Board.{Board}
 use Rattle.cells.specs.Order.{only, from, ordered}
-use Rattle.cells.proofs.Cells.{turned, in-order-out, in-order-end, out-from}
-use Rattle.any_order.specs.Steps.{Event, Out, refusal, opened}
-use Rattle.any_order.specs.AnyOrder.{Item, Entry, crateOf, crateOfEntry, trace, final, wordOf}
-use Rattle.any_order.specs.AnyOrder.{lineOf, openedOn, endOn, doneOn, answeredOn, refusedAll, AnyOrder, beginsPass}
-use Rattle.any_order.proofs.Served.{crateStep, endCells, outCells}
-use Rattle.any_order.proofs.Begun.{Begun, begun-after}
-use Rattle.any_order.proofs.OneCrate.{final-is, trace-is, done-is, list-is, alone}
-use Rattle.any_order.proofs.Counts.{length-end, counts-of}
+use Rattle.cells.proofs.Order.{only-ordered}
+use Rattle.cells.proofs.Cells.{turned, in-order-out, in-order-end, out-from, out, end}
+use Rattle.any_order.specs.Steps.{Event, Result, refusal}
+use Rattle.any_order.specs.AnyOrder.{Item, ItemResult, itemCrate, resultCrate, Begin, write, ping, Accepted, startOf, begunBoard}
+use Rattle.any_order.specs.AnyOrder.{fetched, results, final, framesIn, framesOn, allDone, refusedAll, AnyOrder}
+use Rattle.any_order.proofs.Begun.{begunCrates, four, start-is, still-after}
+use Rattle.any_order.proofs.OneCrate.{stepCells, cratesAfter, final-is, results-are, crates-are, alone}
+use Rattle.any_order.proofs.SentOut.{in-pass, records-given, records-most, list-is, list-given, list-begun}
 
--- ---- the claim, of any state in which a pass has just begun
-
-turned-refused : (f : ℕ → Crate → Event → Out × Crate) (xs : List Item) → turned noCrate f (refusal 11) xs ≡ refusedAll xs
+turned-refused : (f : ℕ → Crate → Event → Result × Crate) (xs : List Item) → turned noCrate f (refusal 11) xs ≡ refusedAll xs
 unfolding turned refusedAll
 turned-refused f [] = refl
-turned-refused f (x ∷ xs) = ap (λ (l : List Entry). (x, refusal 11) ∷ l) (turned-refused f xs)
+turned-refused f (x ∷ xs) = ap (λ (l : List ItemResult). (x, refusal 11) ∷ l) (turned-refused f xs)
 
--- no crate has a frame outstanding exactly where all four are done
-none-outstanding : (d₀ d₁ d₂ d₃ : Bool) → not (not d₀ || not d₁ || not d₂ || not d₃) ≡ (d₀ && d₁ && d₂ && d₃)
-none-outstanding false d₁ d₂ d₃ = refl
-none-outstanding true false d₂ d₃ = refl
-none-outstanding true true false d₃ = refl
-none-outstanding true true true false = refl
-none-outstanding true true true true = refl
+double-not : (t : Bool) → not (not t) ≡ t
+double-not true = refl
+double-not false = refl
 
-module _ (start : Board) (b : Begun start) (xs : List Item) where
+module _ (β : Board) (g : Begin) (a : Accepted β g) (xs : List Item) where
+  abbrev start : Board
+  start = startOf β g
+
+  abbrev second : List Item
+  second = ordered itemCrate 4 xs
+
   abbrev cs : List Crate
-  cs = start .crates
+  cs = begunCrates β g
 
-  abbrev step : ℕ → Crate → Event → Out × Crate
-  step = crateStep (start .kind) (start .block)
+  abbrev step : ℕ → Crate → Event → Result × Crate
+  step = stepCells β g a
 
   -- the same answers and frames, and the same state
-  entries-are : trace start (ordered crateOf 4 xs) ≡ ordered crateOfEntry 4 (trace start xs)
-  entries-are =
-      trace-is start b (ordered crateOf 4 xs)
-      ∙ subst (λ n. outCells start cs (ordered crateOf n xs) ≡ ordered crateOfEntry n (outCells start cs xs)) (b .four) (in-order-out noCrate step (refusal 11) cs xs)
-      ∙ ap (ordered crateOfEntry 4) (sym (trace-is start b xs))
+  answers-are : results start second ≡ ordered resultCrate 4 (results start xs)
+  answers-are =
+      results-are β g a second
+      ∙ subst (λ n. out noCrate step (refusal 11) cs (ordered itemCrate n xs) ≡ ordered resultCrate n (out noCrate step (refusal 11) cs xs)) (four β g)
+      (in-order-out noCrate step (refusal 11) cs xs)
+      ∙ ap (ordered resultCrate 4) (sym (results-are β g a xs))
 
-  state-is : final start (ordered crateOf 4 xs) ≡ final start xs
+  state-is : final start second ≡ final start xs
   state-is =
-      final-is start b (ordered crateOf 4 xs)
-      ∙ ap (withCrates start) (subst (λ n. endCells start cs (ordered crateOf n xs) ≡ endCells start cs xs) (b .four) (in-order-end noCrate step (refusal 11) cs xs))
-      ∙ sym (final-is start b xs)
+      final-is β g a second
+      ∙ ap (begunBoard β g) (subst (λ n. end noCrate step (refusal 11) cs (ordered itemCrate n xs) ≡ end noCrate step (refusal 11) cs xs) (four β g)
+      (in-order-end noCrate step (refusal 11) cs xs))
+      ∙ sym (final-is β g a xs)
 
   -- the items for no crate
-  above-are : from crateOfEntry 4 (trace start xs) ≡ refusedAll (from crateOf 4 xs)
+  above-are : from resultCrate 4 (results start xs) ≡ refusedAll (from itemCrate 4 xs)
   above-are =
-      ap (from crateOfEntry 4) (trace-is start b xs)
-      ∙ subst (λ n. from crateOfEntry n (outCells start cs xs) ≡ turned noCrate step (refusal 11) (from crateOf n xs)) (b .four) (out-from noCrate step (refusal 11) cs xs)
-      ∙ turned-refused step (from crateOf 4 xs)
+      ap (from resultCrate 4) (results-are β g a xs)
+      ∙ subst (λ n. from resultCrate n (out noCrate step (refusal 11) cs xs) ≡ turned noCrate step (refusal 11) (from itemCrate n xs)) (four β g)
+      (out-from noCrate step (refusal 11) cs xs)
+      ∙ turned-refused step (from itemCrate 4 xs)
+
+  -- the same frames
+  frames-are : (c : ℕ) → c < 4 → framesOn β g c second ≡ framesOn β g c xs
+  frames-are c h =
+      ap (λ (ts : List ItemResult). fetched start c ++ framesIn ts) (ap (only resultCrate c) answers-are ∙ only-ordered resultCrate c 4 (results start xs) h)
+
+  -- the state that the command returned
+  start-kept : start ≡ begunBoard β g (start .crates)
+  unfolding begunBoard
+  start-kept = start-is β g a ∙ ap (begunBoard β g) (sym (ap (λ (γ : Board). γ .crates) (start-is β g a)))
 
   -- nothing but the crates changes
-  rest-is : final start xs ≡ withCrates start (final start xs .crates)
-  unfolding withCrates
-  rest-is = final-is start b xs ∙ ap (withCrates start) (sym (ap (λ (β : Board). β .crates) (final-is start b xs)))
+  rest-is : final start xs ≡ begunBoard β g (final start xs .crates)
+  rest-is = final-is β g a xs ∙ ap (begunBoard β g) (sym (crates-are β g a xs))
 
   -- the board is idle once all four are done
-  still-is : isRunning (final start xs .run) ≡ false
-  unfolding withCrates
-  still-is = ap (λ (β : Board). isRunning (β .run)) (final-is start b xs) ∙ b .still
-
-  outstanding-is : not (inPass (final start xs .crates)) ≡ (doneOn start 0 xs && doneOn start 1 xs && doneOn start 2 xs && doneOn start 3 xs)
-  unfolding inPass
-  outstanding-is =
-      none-outstanding (isDone (crateAt (final start xs) 0)) (isDone (crateAt (final start xs) 1)) (isDone (crateAt (final start xs) 2)) (isDone (crateAt (final start xs) 3))
-      ∙ rw (done-is start b xs 0 (omega arith), done-is start b xs 1 (omega arith), done-is start b xs 2 (omega arith), done-is start b xs 3 (omega arith))
-
-  idle-is : isIdle (final start xs) ≡ (doneOn start 0 xs && doneOn start 1 xs && doneOn start 2 xs && doneOn start 3 xs)
-  idle-is = ap₂ (λ r p. not r && p) still-is outstanding-is
-
-  -- in a ping each crate has ten entries, and the list counts those that answered
-  entries-opened : (c : ℕ) → openedOn start c .entries ≡ entriesIn (crateAt start c)
-  unfolding opened
-  entries-opened c = refl
-
-  ten-entries : start .kind ≡ PassKind.Ping → (c : ℕ) → c < 4 → length (endOn start c xs .entries) ≡ 10
-  ten-entries p c h =
-      length-end (lineOf start c) (openedOn start c) (only crateOf c xs)
-      ∙ ap length (entries-opened c)
-      ∙ ap (λ (k : Crate). length (entriesIn k)) (b .begun c h)
-      ∙ ap (λ kind. length (entriesIn (begunCrate kind (wordOf start c) (b .before c)))) p
-      ∙ ap length (entries-cleared (wordOf start c) (b .before c))
-
-  counts-are : start .kind ≡ PassKind.Ping
-      → take 5 (listBody (listOf (final start xs)))
-      ≡ (answeredOn start 0 xs + answeredOn start 1 xs + answeredOn start 2 xs + answeredOn start 3 xs)
-      ∷ answeredOn start 0 xs ∷ answeredOn start 1 xs ∷ answeredOn start 2 xs ∷ answeredOn start 3 xs ∷ []
-  counts-are p =
-      counts-of (final start xs) (λ c h. ap length (list-is start b xs c h) ∙ ten-entries p c h)
-      ∙ rw (list-is start b xs 0 (omega arith), list-is start b xs 1 (omega arith), list-is start b xs 2 (omega arith), list-is start b xs 3 (omega arith))
-
-  any-order : AnyOrder start xs
-  any-order =
-      record { entries = entries-are; state = state-is; alone = alone start b xs; above = above-are; rest = rest-is; idle = idle-is; counts = counts-are }
-
--- ---- demand 3
+  idle-is : isIdle (final start xs) ≡ allDone β g xs
+  idle-is =
+      ap₂ (λ r p. not r && not p)
+      (ap (λ (γ : Board). isRunning (γ .run)) (final-is β g a xs) ∙ still-after β g a _)
+      (in-pass β g a xs)
+      ∙ double-not (allDone β g xs)
 
 -- whatever board, whatever accepted write or ping, and whatever comes then
-pub demand-3 : (β : Board) (w : List ℕ) (c : Command) → boardAnswer β w ≡ given c → beginsPass c ≡ true → (xs : List Item) → AnyOrder (boardAfter β w) xs
-demand-3 β w c e p xs = any-order (boardAfter β w) (begun-after β w c e p) xs
+pub demand-3 : (β : Board) (g : Begin) → Accepted β g → (xs : List Item) → AnyOrder β g xs
+demand-3 β g a xs =
+    record {
+      start = start-kept β g a xs;
+      begun-list = list-begun β g a;
+      answers = answers-are β g a xs;
+      frames = frames-are β g a xs;
+      state = state-is β g a xs;
+      alone = alone β g a xs;
+      above = above-are β g a xs;
+      records = records-given β g a xs;
+      records-most = records-most β g a xs;
+      list = list-given β g a xs;
+      list-kept = list-is β g a xs;
+      rest = rest-is β g a xs;
+      idle = idle-is β g a xs;
+    }

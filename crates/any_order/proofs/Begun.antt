@@ -1,71 +1,113 @@
--- An accepted write or ping begins a pass: on each of the four crates, while no run is on (`begun-after`).
+-- An accepted write or ping begins the pass that its words say (`start-is`), on each of the four crates (`crate-begun`), while no run is on (`still`).
 -- Assumes nothing.
 use Prim.Native.Nat.{ℕ, zero, suc, _<_}
-use mathlib.Core.Path.{_≡_, refl, sym, subst}
-use mathlib.Core.List.{List}
-use mathlib.Core.Bool.{Bool, true, false, not, _&&_}
+use mathlib.Core.Path.{_≡_, refl, sym, ap, _∙_, subst}
+use mathlib.Core.List.{List, [], _∷_}
+use mathlib.Core.Bool.{Bool, true, false, not, _&&_, cond}
 use native.Mathlib.Omega.{arith}
-use lib.ListN.{length}
-use Rattle.refusals.specs.Tables.{Answer, given}
-use Rattle.commands.specs.declared.Command.{Command}
-use Rattle.commands.specs.declared.Command.the-variants.{Read, Write, Start, Stop, Ping, CrateReset}
+use lib.ListN.{length, getD}
+use lib.Dec.{ltb}
+use Rattle.commands.specs.declared.Command.the-variants.{Write, Ping}
 use Rattle.run.specs.Run.{isRunning}
-use Rattle.crate_pass.specs.Crate.{begunCrate}
+use Rattle.crate_pass.specs.Crate.{nextBoard, firstCode, sentAt, begunCrate}
 use Rattle.crate_pass.specs.declared.PassKind.{PassKind}
-use Rattle.crate_pass.specs.declared.PassKind.the-variants.{Reprogramming}
 use Rattle.crate_pass.specs.declared.Crate.{Crate}
-use Rattle.four_crates.specs.FourCrates.{inPass, begunAll}
-use Rattle.acceptance.specs.Acceptance.{notNow}
+use Rattle.four_crates.specs.FourCrates.{noCrate, inPass, begunAll}
 use Rattle.acceptance.proofs.Deciding.{obeyed-now}
-use Rattle.board.specs.State.{crateAt, situationOf}
-use Rattle.board.specs.Commands.{boardAnswer, blockIn, written, pinged, carriedOut, afterCommand, boardAfter}
+use Rattle.board.specs.State.{crateAt, situationOf, withCrates}
+use Rattle.board.specs.Commands.{blockIn, written, pinged, afterCommand}
 use Rattle.board.specs.declared.Board.{Board}
-use Rattle.cells.specs.Order.{from}
-use Rattle.any_order.specs.AnyOrder.{wordOf, beginsPass}
+use Rattle.any_order.specs.Steps.{Step, step, steps, first}
+use Rattle.any_order.specs.AnyOrder.{Begin, write, ping, Accepted, startOf, kindOf, blockOf, wordOf, begunBoard, passOn}
+use Rattle.any_order.proofs.Places.{first-at, begun-todo}
+use Rattle.any_order.proofs.Walks.{view, view-begun, fit-begun}
+use Rattle.any_order.proofs.Frames.{Bound, bound-begun}
+use Rattle.any_order.proofs.Runs.{Runs}
 
--- a pass has just begun: on four crates, each from what it was before, and no run is on
-pub record Begun (start : Board) : Type 0 where
-  pub four : length (start .crates) ≡ 4
-  pub before : ℕ → Crate
-  pub begun : (c : ℕ) → c < 4 → crateAt start c ≡ begunCrate (start .kind) (wordOf start c) (before c)
-  pub still : isRunning (start .run) ≡ false
+-- ---- the state
 
--- ---- an accepted write or ping begins a pass
+-- the four crates as the pass begins
+abbrev pub begunCrates : Board → Begin → List Crate
+begunCrates β g =
+    begunAll (kindOf g) (wordOf (blockOf β g) 0 ∷ wordOf (blockOf β g) 1 ∷ wordOf (blockOf β g) 2 ∷ wordOf (blockOf β g) 3 ∷ []) (β .crates)
+
+-- the board in that pass, whose crates do not matter
+abbrev pub base : Board → Begin → Board
+base β g = begunBoard β g []
+
+pub base-with : (β : Board) (g : Begin) (cs : List Crate) → withCrates (base β g) cs ≡ begunBoard β g cs
+unfolding withCrates begunBoard
+base-with β g cs = refl
+
+pub start-is : (β : Board) (g : Begin) → Accepted β g → startOf β g ≡ begunBoard β g (begunCrates β g)
+unfolding begunBoard written pinged
+start-is β (write w) e = ap (afterCommand β (blockIn w)) e
+start-is β (ping w) e = ap (afterCommand β (blockIn w)) e
 
 -- a command that asks for an idle board finds no run on
 idle-still : (running pass : Bool) → not (not running && pass) ≡ false → running ≡ false
 idle-still true pass e = absurd (let z : _≡_ {A = ℕ} 0 1 = cc in omega arith)
 idle-still false pass e = refl
 
-begun-write : (β : Board) (block : List ℕ) → isRunning (β .run) ≡ false → Begun (written β block)
-unfolding written begunAll
-begun-write β block still = record { four = refl; before = crateAt β; begun = at; still = still }
-  where
-    at : (c : ℕ) → c < 4 → crateAt (written β block) c ≡ begunCrate Reprogramming (wordOf (written β block) c) (crateAt β c)
-    at zero h = refl
-    at (suc zero) h = refl
-    at (suc (suc zero)) h = refl
-    at (suc (suc (suc zero))) h = refl
-    at (suc (suc (suc (suc c)))) h = absurd (omega arith)
+pub still : (β : Board) (g : Begin) → Accepted β g → isRunning (β .run) ≡ false
+still β (write w) e = idle-still (isRunning (β .run)) (not (inPass (β .crates))) (obeyed-now w (situationOf β) Write e)
+still β (ping w) e = idle-still (isRunning (β .run)) (not (inPass (β .crates))) (obeyed-now w (situationOf β) Ping e)
 
-begun-ping : (β : Board) → isRunning (β .run) ≡ false → Begun (pinged β)
-unfolding pinged begunAll
-begun-ping β still = record { four = refl; before = crateAt β; begun = at; still = still }
-  where
-    at : (c : ℕ) → c < 4 → crateAt (pinged β) c ≡ begunCrate PassKind.Ping (wordOf (pinged β) c) (crateAt β c)
-    at zero h = refl
-    at (suc zero) h = refl
-    at (suc (suc zero)) h = refl
-    at (suc (suc (suc zero))) h = refl
-    at (suc (suc (suc (suc c)))) h = absurd (omega arith)
+-- ---- each crate
 
-begun-by : (β : Board) (block : List ℕ) (c : Command) → beginsPass c ≡ true → notNow c (situationOf β) ≡ false → Begun (carriedOut β block c)
-begun-by β block (Read kind) p n = absurd (let z : _≡_ {A = ℕ} 0 1 = cc in omega arith)
-begun-by β block Write p n = begun-write β block (idle-still (isRunning (β .run)) (not (inPass (β .crates))) n)
-begun-by β block (Start run) p n = absurd (let z : _≡_ {A = ℕ} 0 1 = cc in omega arith)
-begun-by β block Stop p n = absurd (let z : _≡_ {A = ℕ} 0 1 = cc in omega arith)
-begun-by β block Ping p n = begun-ping β (idle-still (isRunning (β .run)) (not (inPass (β .crates))) n)
-begun-by β block (CrateReset c) p n = absurd (let z : _≡_ {A = ℕ} 0 1 = cc in omega arith)
+module _ (β : Board) (g : Begin) where
+  pub four : length (begunCrates β g) ≡ 4
+  unfolding begunAll
+  four = refl
 
-pub begun-after : (β : Board) (w : List ℕ) (c : Command) → boardAnswer β w ≡ given c → beginsPass c ≡ true → Begun (boardAfter β w)
-begun-after β w c e p = subst (λ (a : Answer Command). Begun (afterCommand β (blockIn w) a)) (sym e) (begun-by β (blockIn w) c p (obeyed-now w (situationOf β) c e))
+  abbrev pub crateBegun : ℕ → Crate
+  crateBegun c = begunCrate (kindOf g) (wordOf (blockOf β g) c) (crateAt β c)
+
+  pub crate-begun : (c : ℕ) → c < 4 → getD (begunCrates β g) c noCrate ≡ crateBegun c
+  unfolding begunAll
+  crate-begun zero h = refl
+  crate-begun (suc zero) h = refl
+  crate-begun (suc (suc zero)) h = refl
+  crate-begun (suc (suc (suc zero))) h = refl
+  crate-begun (suc (suc (suc (suc c)))) h = absurd (omega arith)
+
+-- it stands for the pass that begins, and its number is that of the first frame
+one-or-none : (t : Bool) (s : Step) → cond t 1 0 ≡ length (cond t (s ∷ []) [])
+one-or-none true s = refl
+one-or-none false s = refl
+
+pub sent-begun : (kind : PassKind) (w : ℕ) (k : Crate) → begunCrate kind w k .sent ≡ length (first (steps kind w))
+unfolding begunCrate sentAt
+sent-begun kind w k =
+    one-or-none (ltb (nextBoard kind w 0) 10) (step (nextBoard kind w 0) (firstCode kind))
+    ∙ ap length (first-at kind w (nextBoard kind w 0) (firstCode kind) ∙ ap first (begun-todo kind w))
+
+pub runs-begun : (kind : PassKind) (w : ℕ) (k : Crate) → Runs kind w (begunCrate kind w k)
+runs-begun kind w k = record { fit = fit-begun kind w k; bound = rw (view-begun kind w k, sent-begun kind w k) (bound-begun (steps kind w)) }
+
+-- ---- a board in a pass that has just begun: on four crates, while no run is on
+
+pub record Begun (γ : Board) : Type 0 where
+  pub four : length (γ .crates) ≡ 4
+  pub still : isRunning (γ .run) ≡ false
+  pub runs : (c : ℕ) → c < 4 → Runs (γ .kind) (wordOf (γ .block) c) (crateAt γ c)
+
+still-begun : (β : Board) (g : Begin) (cs : List Crate) → isRunning (begunBoard β g cs .run) ≡ isRunning (β .run)
+unfolding begunBoard
+still-begun β (write w) cs = refl
+still-begun β (ping w) cs = refl
+
+pub still-after : (β : Board) (g : Begin) → Accepted β g → (cs : List Crate) → isRunning (begunBoard β g cs .run) ≡ false
+still-after β g a cs = still-begun β g cs ∙ still β g a
+
+begun-board : (β : Board) (g : Begin) → Accepted β g → Begun (begunBoard β g (begunCrates β g))
+unfolding begunBoard
+begun-board β g a =
+    record {
+      four = four β g;
+      still = still-after β g a (begunCrates β g);
+      runs = λ c h. subst (Runs (kindOf g) (wordOf (blockOf β g) c)) (sym (crate-begun β g c h)) (runs-begun (kindOf g) (wordOf (blockOf β g) c) (crateAt β c));
+    }
+
+pub begun-after : (β : Board) (g : Begin) → Accepted β g → Begun (startOf β g)
+begun-after β g a = subst Begun (sym (start-is β g a)) (begun-board β g a)

@@ -18,18 +18,22 @@ use Rattle.steps.specs.Steps.{stepFrame}
 use Rattle.board.specs.State.{crateAt}
 use Rattle.board.specs.SlowControl.{fetchRules, frameAt}
 use Rattle.board.specs.declared.Board.{Board}
-use Rattle.any_order.specs.Steps.{step}
-use Rattle.any_order.specs.AnyOrder.{framesGiven, fetched, lineOf, stepOf}
+use Rattle.any_order.specs.Steps.{Step, step}
+use Rattle.any_order.specs.AnyOrder.{framesGiven, fetched, stepOf}
 
 -- ---- the frame fetched on a crate is that of its outstanding step
 
-pub fetched-step : (β : Board) (c : ℕ) → c < 4 → fetched β c ≡ map (lineOf β c) (stepOf (crateAt β c))
+-- the bytes of a step's frame on crate c, with the block
+abbrev pub frameIn : List ℕ → ℕ → Step → List ℕ
+frameIn block c s = stepFrame block c (s .board) (s .code)
+
+pub fetched-step : (β : Board) (c : ℕ) → c < 4 → fetched β c ≡ map (frameIn (β .block) c) (stepOf (crateAt β c))
 unfolding fetched frameAt stepOf
 fetched-step β c h = let l : c ≤ 3 = omega arith in rw (le-ltb _ _ l) (go (ltb (crateAt β c .board) 10) refl)
   where
     go : (t : Bool) → ltb (crateAt β c .board) 10 ≡ t
         → framesGiven (cond (leb 10 (crateAt β c .board)) (refused 12 0) (given (stepFrame (β .block) c (crateAt β c .board) (crateAt β c .code))))
-        ≡ map (lineOf β c) (cond t (step (crateAt β c .board) (crateAt β c .code) ∷ []) [])
+        ≡ map (frameIn (β .block) c) (cond t (step (crateAt β c .board) (crateAt β c .code) ∷ []) [])
     go true e = rw (lt-leb _ _ (ltb-true _ _ e))
     go false e = rw (le-leb _ _ (ltb-false _ _ e))
 
@@ -55,13 +59,17 @@ pub record FetchGives (β : Board) (c : ℕ) (out : List ℕ) : Type 0 where
   -- and the lent bytes then begin with that frame
   pub front : (n : ℕ) (after : List ℕ) → Wrote (fetchRules β c) (frameAt β c) out (Length n) after → take n after ≡ frameAt β c
 
-given-fetched : (β : Board) (c n : ℕ) (out : List ℕ) → writing (fetchRules β c) (frameAt β c) out ≡ given n → fetched β c ≡ frameAt β c ∷ []
+given-fetched : (β : Board) (c n : ℕ) (out : List ℕ) → writing (fetchRules β c) (frameAt β c) out ≡ given n
+    → fetched β c ≡ frameAt β c ∷ []
 unfolding fetched writing
 given-fetched β c n out e =
-    let clear : Clear (writingRules (fetchRules β c) (frameAt β c) out) = given-clear (writingRules (fetchRules β c) (frameAt β c) out) (length (frameAt β c)) n e in
-    ap framesGiven (clear-given (fetchRules β c) (frameAt β c) (clear-front (fetchRules β c) (rule 19 (ltb (length out) (length (frameAt β c))) ∷ []) clear))
+    let clear : Clear (writingRules (fetchRules β c) (frameAt β c) out) =
+    given-clear (writingRules (fetchRules β c) (frameAt β c) out) (length (frameAt β c)) n e in
+    ap framesGiven
+    (clear-given (fetchRules β c) (frameAt β c) (clear-front (fetchRules β c) (rule 19 (ltb (length out) (length (frameAt β c))) ∷ []) clear))
 
-fetched-given : (β : Board) (c : ℕ) (out : List ℕ) → 28 ≤ length out → fetched β c ≡ frameAt β c ∷ [] → writing (fetchRules β c) (frameAt β c) out ≡ given 28
+fetched-given : (β : Board) (c : ℕ) (out : List ℕ) → 28 ≤ length out → fetched β c ≡ frameAt β c ∷ []
+    → writing (fetchRules β c) (frameAt β c) out ≡ given 28
 unfolding fetched
 fetched-given β c out h e =
     let clear : Clear (fetchRules β c) = clear-fetched (fetchRules β c) (frameAt β c) e in
@@ -69,4 +77,8 @@ fetched-given β c out h e =
 
 pub fetch-gives : (β : Board) (c : ℕ) (out : List ℕ) → 28 ≤ length out → FetchGives β c out
 fetch-gives β c out h =
-    record { gives = fetched-given β c out h; gives-only = λ n e. given-fetched β c n out e; front = λ n after w. wrote-front (fetchRules β c) (frameAt β c) out n after w }
+    record {
+      gives = fetched-given β c out h;
+      gives-only = λ n e. given-fetched β c n out e;
+      front = λ n after w. wrote-front (fetchRules β c) (frameAt β c) out n after w;
+    }

@@ -1,9 +1,16 @@
 -- Demand 3 (`demand-3` in AnyOrder), and the laws that lead to it, in this order.
-pub mod Cursor
-pub mod Bound
+pub mod Places
+pub mod Kept
+pub mod Walks
+pub mod Fits
+pub mod Frames
 pub mod Fetch
 pub mod Served
+pub mod Runs
 pub mod Begun
 pub mod OneCrate
-pub mod Counts
+pub mod Records
+pub mod Lists
+pub mod SentOut
 pub mod AnyOrder
+pub mod Calls

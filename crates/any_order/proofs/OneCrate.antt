@@ -4,179 +4,219 @@ use Prim.Native.Nat.{ℕ, _+_, _<_, _≤_}
 use mathlib.Core.Path.{_≡_, refl, sym, ap, ap₂, _∙_, subst}
 use mathlib.Core.List.{List, _++_, map}
 use native.Mathlib.Omega.{arith}
-use lib.ListN.{length, length-append, length-map}
+use lib.ListN.{length, getD, length-append, length-map}
 use borrow.Author.Tests.{le-ltb}
 use Rattle.refusals.specs.Tables.{given}
-use Rattle.ftu_list.specs.declared.Entry.{Entry}
-use Rattle.steps.specs.Steps.{stepFrame}
 use Rattle.crate_pass.specs.Crate.{entriesIn, isDone}
+use Rattle.crate_pass.specs.declared.PassKind.{PassKind}
+use Rattle.crate_pass.specs.declared.PassKind.the-variants.{Reprogramming}
 use Rattle.crate_pass.specs.declared.Crate.{Crate}
 use Rattle.four_crates.specs.FourCrates.{noCrate, sentOn}
-use Rattle.board.specs.State.{crateAt, withCrates}
+use Rattle.board.specs.State.{crateAt}
 use Rattle.board.specs.SlowControl.{sentAnswer}
 use Rattle.board.specs.declared.Board.{Board}
 use Rattle.cells.specs.Order.{only}
-use Rattle.cells.proofs.Cells.{endAlone, end-at, out-at}
-use Rattle.any_order.specs.Steps.{Step, steps, Pass, refusal, first, none, opened}
-use Rattle.any_order.specs.AnyOrder.{Item, crateOf, crateOfEntry, fetched, trace, final, passTrace, passEnd, wordOf}
-use Rattle.any_order.specs.AnyOrder.{lineOf, openedOn, endOn, framesIn, framesOn, acceptedIn, mostFrames, stepOf, Alone}
-use Rattle.any_order.proofs.Cursor.{Code, view, view-first, view-none, view-begun, code-begun}
-use Rattle.any_order.proofs.Bound.{Bound, bound-opened, sent-bounded, sent-frames, sent-accepted}
-use Rattle.any_order.proofs.Fetch.{fetched-step}
-use Rattle.any_order.proofs.Begun.{Begun}
-use Rattle.any_order.proofs.Served.{crateStep, endCells, outCells, final-cells, trace-cells, Runs, run-end, run-out}
+use Rattle.cells.proofs.Cells.{end, out, endAlone, outAlone, end-at, out-at}
+use Rattle.any_order.specs.Steps.{Step, steps, Event, Pass, Result, refusal, first, none}
+use Rattle.any_order.specs.AnyOrder.{Item, ItemResult, itemCrate, resultCrate, Begin, Accepted, startOf, kindOf, blockOf, wordOf, begunBoard}
+use Rattle.any_order.specs.AnyOrder.{fetched, results, final, framesIn, framesOn, acceptedIn, mostFrames, passResults, passEnd}
+use Rattle.any_order.specs.AnyOrder.{frameOn, passOn, resultsOn, endOn, Rising, stepOf, Alone}
+use Rattle.any_order.proofs.Kept.{failedSteps, failed-rising, boardsOf}
+use Rattle.any_order.proofs.Walks.{view, view-first, view-none, view-begun}
+use Rattle.any_order.proofs.Frames.{bound-sent, most-frames, frames-accepted}
+use Rattle.any_order.proofs.Fetch.{frameIn, fetched-step}
+use Rattle.any_order.proofs.Served.{crateStep, endCells, outCells, final-cells, results-cells}
+use Rattle.any_order.proofs.Runs.{run-end, run-results, run-runs, run-sent, run-list}
+use Rattle.any_order.proofs.Begun.{begunCrates, base, base-with, start-is, four, crateBegun, crate-begun, sent-begun, runs-begun}
 
-opened-todo : (ss : List Step) (entries : List Entry) → opened ss entries .todo ≡ ss
-unfolding opened
-opened-todo ss entries = refl
+module _ (β : Board) (g : Begin) (a : Accepted β g) where
+  abbrev pub start : Board
+  start = startOf β g
 
-opened-sent : (ss : List Step) (entries : List Entry) → opened ss entries .sent ≡ length (first ss)
-unfolding opened
-opened-sent ss entries = refl
+  abbrev pub stepCells : ℕ → Crate → Event → Result × Crate
+  stepCells = crateStep (kindOf g) (blockOf β g)
 
-module _ (start : Board) (b : Begun start) where
+  abbrev pub cratesAfter : List Item → List Crate
+  cratesAfter xs = end noCrate stepCells (refusal 11) (begunCrates β g) xs
+
   -- ---- the board is its cells
-  pub final-is : (ys : List Item) → final start ys ≡ withCrates start (endCells start (start .crates) ys)
-  unfolding withCrates
-  final-is ys = final-cells start (start .crates) ys (b .four)
+  start-base : (cs : List Crate) (xs : List Item) → endCells (base β g) cs xs ≡ end noCrate stepCells (refusal 11) cs xs
+  unfolding begunBoard
+  start-base cs xs = refl
 
-  pub trace-is : (ys : List Item) → trace start ys ≡ outCells start (start .crates) ys
-  unfolding withCrates
-  trace-is ys = trace-cells start (start .crates) ys (b .four)
+  base-out : (cs : List Crate) (xs : List Item) → outCells (base β g) cs xs ≡ out noCrate stepCells (refusal 11) cs xs
+  unfolding begunBoard
+  base-out cs xs = refl
 
-  -- ---- a crate as the pass begins
-  view-start : (c : ℕ) → c < 4 → view (start .kind) (wordOf start c) (crateAt start c) ≡ openedOn start c
-  view-start c h =
-      ap (view (start .kind) (wordOf start c)) (b .begun c h)
-      ∙ view-begun (start .kind) (wordOf start c) (b .before c)
-      ∙ ap (λ (k : Crate). opened (steps (start .kind) (wordOf start c)) (entriesIn k)) (sym (b .begun c h))
+  pub final-is : (ys : List Item) → final start ys ≡ begunBoard β g (cratesAfter ys)
+  final-is ys =
+      ap (λ (γ : Board). final γ ys) (start-is β g a ∙ sym (base-with β g (begunCrates β g)))
+      ∙ final-cells (base β g) (begunCrates β g) ys (four β g)
+      ∙ base-with β g (endCells (base β g) (begunCrates β g) ys)
+      ∙ ap (begunBoard β g) (start-base (begunCrates β g) ys)
 
-  pub runs-start : (c : ℕ) → c < 4 → Runs (start .kind) (wordOf start c) (crateAt start c)
-  runs-start c h =
-      record {
-        code = subst (λ (k : Crate). Code (start .kind) (k .code)) (sym (b .begun c h)) (code-begun (start .kind) (wordOf start c) (b .before c));
-        bound = subst (Bound (length (steps (start .kind) (wordOf start c)))) (sym (view-start c h))
-            (bound-opened (steps (start .kind) (wordOf start c)) (entriesIn (crateAt start c)));
-      }
+  pub results-are : (ys : List Item) → results start ys ≡ out noCrate stepCells (refusal 11) (begunCrates β g) ys
+  results-are ys =
+      ap (λ (γ : Board). results γ ys) (start-is β g a ∙ sym (base-with β g (begunCrates β g)))
+      ∙ results-cells (base β g) (begunCrates β g) ys (four β g)
+      ∙ base-out (begunCrates β g) ys
+
+  pub crates-are : (ys : List Item) → final start ys .crates ≡ cratesAfter ys
+  unfolding begunBoard
+  crates-are ys = ap (λ (γ : Board). γ .crates) (final-is ys)
+
+  pub block-is : (ys : List Item) → final start ys .block ≡ blockOf β g
+  unfolding begunBoard
+  block-is ys = ap (λ (γ : Board). γ .block) (final-is ys)
+
+  start-block : start .block ≡ blockOf β g
+  unfolding begunBoard
+  start-block = ap (λ (γ : Board). γ .block) (start-is β g a)
+
+  start-crate : (c : ℕ) → c < 4 → crateAt start c ≡ crateBegun β g c
+  unfolding begunBoard
+  start-crate c h = ap (λ (γ : Board). crateAt γ c) (start-is β g a) ∙ crate-begun β g c h
 
   module _ (xs : List Item) (c : ℕ) (h : c < 4) where
-    abbrev line : Step → List ℕ
-    line = lineOf start c
+    abbrev kind : PassKind
+    kind = kindOf g
+
+    abbrev word : ℕ
+    word = wordOf (blockOf β g) c
+
+    abbrev frame : Step → List ℕ
+    frame = frameOn β g c
 
     abbrev own : List Item
-    own = only crateOf c xs
+    own = only itemCrate c xs
+
+    abbrev first-crate : Crate
+    first-crate = crateBegun β g c
 
     abbrev at-end : Crate
     at-end = crateAt (final start xs) c
 
     abbrev pass-end : Pass
-    pass-end = endOn start c xs
+    pass-end = endOn β g c xs
 
-    there : c < length (start .crates)
-    there = subst (λ n. c < n) (sym (b .four)) h
+    there : c < length (begunCrates β g)
+    there = subst (λ n. c < n) (sym (four β g)) h
 
     -- ---- the crate at the end stands for the pass at the end, and got what the pass got
-    crate-is : at-end ≡ endAlone noCrate (crateStep (start .kind) (start .block)) (refusal 11) c (crateAt start c) own
-    unfolding withCrates
-    crate-is = ap (λ β. crateAt β c) (final-is xs) ∙ end-at noCrate (crateStep (start .kind) (start .block)) (refusal 11) c (start .crates) xs there
+    pub crate-is : at-end ≡ endAlone noCrate stepCells (refusal 11) c first-crate own
+    crate-is =
+        ap (λ (cs : List Crate). getD cs c noCrate) (crates-are xs)
+        ∙ end-at noCrate stepCells (refusal 11) c (begunCrates β g) xs there
+        ∙ ap (λ (k : Crate). endAlone noCrate stepCells (refusal 11) c k own) (crate-begun β g c h)
 
-    view-is : view (start .kind) (wordOf start c) at-end ≡ pass-end
+    pub view-is : view kind word at-end ≡ pass-end
     view-is =
-        ap (view (start .kind) (wordOf start c)) crate-is
-        ∙ run-end (start .kind) (start .block) c (crateAt start c) own (runs-start c h)
-        ∙ ap (λ p. passEnd line p own) (view-start c h)
+        ap (view kind word) crate-is
+        ∙ run-end kind (blockOf β g) c first-crate own (runs-begun kind word (crateAt β c))
+        ∙ ap (λ (p : Pass). passEnd frame p own) (view-begun kind word (crateAt β c))
 
-    entries-are : only crateOfEntry c (trace start xs) ≡ passTrace line (openedOn start c) own
-    entries-are =
-        ap (only crateOfEntry c) (trace-is xs)
-        ∙ out-at noCrate (crateStep (start .kind) (start .block)) (refusal 11) c (start .crates) xs there
-        ∙ run-out (start .kind) (start .block) c (crateAt start c) own (runs-start c h)
-        ∙ ap (λ p. passTrace line p own) (view-start c h)
+    crate-results : only resultCrate c (results start xs) ≡ outAlone noCrate stepCells (refusal 11) c first-crate own
+    crate-results =
+        ap (only resultCrate c) (results-are xs)
+        ∙ out-at noCrate stepCells (refusal 11) c (begunCrates β g) xs there
+        ∙ ap (λ (k : Crate). outAlone noCrate stepCells (refusal 11) c k own) (crate-begun β g c h)
+
+    answers-are : only resultCrate c (results start xs) ≡ resultsOn β g c xs
+    answers-are =
+        crate-results
+        ∙ run-results kind (blockOf β g) c first-crate own (runs-begun kind word (crateAt β c))
+        ∙ ap (λ (p : Pass). passResults frame p own) (view-begun kind word (crateAt β c))
 
     -- ---- what the crate keeps
     place-is : stepOf at-end ≡ first (pass-end .todo)
-    place-is = view-first (start .kind) (wordOf start c) at-end ∙ ap (λ (p : Pass). first (p .todo)) view-is
+    place-is = view-first kind word at-end ∙ ap (λ (p : Pass). first (p .todo)) view-is
 
     pub done-is : isDone at-end ≡ none (pass-end .todo)
-    done-is = view-none (start .kind) (wordOf start c) at-end ∙ ap (λ (p : Pass). none (p .todo)) view-is
+    done-is = view-none kind word at-end ∙ ap (λ (p : Pass). none (p .todo)) view-is
 
     tries-is : at-end .tries ≡ pass-end .tries
     unfolding view
     tries-is = ap (λ (p : Pass). p .tries) view-is
 
-    sent-is : at-end .sent ≡ pass-end .sent
+    pub failed-is : failedSteps (at-end .failed) 10 ≡ pass-end .failed
     unfolding view
-    sent-is = ap (λ (p : Pass). p .sent) view-is
+    failed-is = ap (λ (p : Pass). p .failed) view-is
 
-    records-are : at-end .failed ≡ pass-end .failed
-    unfolding view
-    records-are = ap (λ (p : Pass). p .failed) view-is
+    pub rising-is : Rising 0 (pass-end .failed)
+    rising-is = subst (Rising 0) failed-is (failed-rising (at-end .failed))
 
-    pub list-is : entriesIn at-end ≡ pass-end .entries
+    pub boards-are : boardsOf kind (entriesIn at-end) ≡ pass-end .boards
     unfolding view
-    list-is = ap (λ (p : Pass). p .entries) view-is
+    boards-are = ap (λ (p : Pass). p .boards) view-is
 
     -- ---- the frames
-    first-sent : fetched start c ≡ map line (first (openedOn start c .todo))
-    first-sent = fetched-step start c h ∙ ap (map line) (view-first (start .kind) (wordOf start c) (crateAt start c) ∙ ap (λ (p : Pass). first (p .todo)) (view-start c h))
+    first-sent : fetched start c ≡ map frame (first (passOn β g c .todo))
+    first-sent =
+        fetched-step start c h
+        ∙ ap₂ (λ (block : List ℕ) (k : Crate). map (frameIn block c) (stepOf k)) start-block (start-crate c h)
+        ∙ ap (map frame) (view-first kind word first-crate ∙ ap (λ (p : Pass). first (p .todo)) (view-begun kind word (crateAt β c)))
 
-    frames-are : framesOn start c xs ≡ map line (first (openedOn start c .todo)) ++ framesIn (passTrace line (openedOn start c) own)
-    frames-are = ap₂ _++_ first-sent (ap framesIn entries-are)
+    frames-are : framesOn β g c xs ≡ map frame (first (passOn β g c .todo)) ++ framesIn (resultsOn β g c xs)
+    frames-are = ap₂ _++_ first-sent (ap framesIn answers-are)
 
-    block-kept : final start xs .block ≡ start .block
-    unfolding withCrates
-    block-kept = ap (λ (β : Board). β .block) (final-is xs)
-
-    outstanding-is : fetched (final start xs) c ≡ map line (first (pass-end .todo))
+    outstanding-is : fetched (final start xs) c ≡ map frame (first (pass-end .todo))
     outstanding-is =
         fetched-step (final start xs) c h
-        ∙ ap₂ (λ (block : List ℕ) (ss : List Step). map (λ s. stepFrame block c (s .board) (s .code)) ss) block-kept place-is
+        ∙ ap₂ (λ (block : List ℕ) (ss : List Step). map (frameIn block c) ss) (block-is xs) place-is
 
     -- ---- their number
-    frames-number : length (framesOn start c xs) ≡ pass-end .sent
+    frames-number : length (framesOn β g c xs) ≡ at-end .sent
     frames-number =
-        ap length frames-are
-        ∙ omega (
+        omega (
           arith,
-          length-append (map line (first (openedOn start c .todo))) (framesIn (passTrace line (openedOn start c) own)),
-          length-map (first (openedOn start c .todo)) line,
-          ap (λ ss. length (first ss)) (opened-todo (steps (start .kind) (wordOf start c)) (entriesIn (crateAt start c))),
-          opened-sent (steps (start .kind) (wordOf start c)) (entriesIn (crateAt start c)),
-          sent-frames line (openedOn start c) own,
+          length-append (fetched start c) (framesIn (only resultCrate c (results start xs))),
+          ap length first-sent,
+          length-map (first (passOn β g c .todo)) frame,
+          ap (λ (ts : List ItemResult). length (framesIn ts)) crate-results,
+          sent-begun kind word (crateAt β c),
+          run-sent kind (blockOf β g) c first-crate own (runs-begun kind word (crateAt β c)),
+          ap (λ (k : Crate). k .sent) crate-is,
         )
 
-    number-is : sentAnswer (final start xs) c ≡ given (length (framesOn start c xs))
+    number-is : sentAnswer (final start xs) c ≡ given (length (framesOn β g c xs))
     unfolding sentOn
-    number-is = let l : c ≤ 3 = omega arith in rw (le-ltb _ _ l) (ap given (sent-is ∙ sym frames-number))
+    number-is = let l : c ≤ 3 = omega arith in rw (le-ltb _ _ l) (ap given (sym frames-number))
 
-    counted-is : length (framesOn start c xs) ≡ acceptedIn (only crateOfEntry c (trace start xs)) + length (fetched (final start xs) c)
+    counted-is : length (framesOn β g c xs) ≡ acceptedIn (only resultCrate c (results start xs)) + length (fetched (final start xs) c)
     counted-is =
         omega (
           arith,
-          frames-number,
-          sent-accepted line (openedOn start c) own,
-          ap (λ ss. length (first ss)) (opened-todo (steps (start .kind) (wordOf start c)) (entriesIn (crateAt start c))),
-          opened-sent (steps (start .kind) (wordOf start c)) (entriesIn (crateAt start c)),
-          ap acceptedIn entries-are,
+          length-append (map frame (first (passOn β g c .todo))) (framesIn (resultsOn β g c xs)),
+          ap length frames-are,
+          length-map (first (passOn β g c .todo)) frame,
+          frames-accepted frame (passOn β g c) own,
+          ap acceptedIn answers-are,
           ap length outstanding-is,
-          length-map (first (pass-end .todo)) line,
+          length-map (first (pass-end .todo)) frame,
         )
 
-    bounded-is : length (framesOn start c xs) ≤ mostFrames (start .kind) (wordOf start c)
-    bounded-is = omega (arith, frames-number, sent-bounded line (start .kind) (wordOf start c) (entriesIn (crateAt start c)) own)
+    bounded-is : length (framesOn β g c xs) ≤ mostFrames kind word
+    bounded-is =
+        omega (
+          arith,
+          frames-number,
+          ap (λ (k : Crate). k .sent) crate-is,
+          bound-sent (length (steps kind word)) (endAlone noCrate stepCells (refusal 11) c first-crate own .sent)
+              (view kind word (endAlone noCrate stepCells (refusal 11) c first-crate own))
+              (run-runs kind (blockOf β g) c first-crate own (runs-begun kind word (crateAt β c)) .bound),
+          most-frames kind word,
+        )
 
-    pub alone : Alone start c xs
+    pub alone : Alone β g c xs
     alone =
         record {
-          entries = entries-are;
+          answers = answers-are;
           frames = frames-are;
           place = place-is;
-          outstanding = outstanding-is;
-          done = done-is;
           tries = tries-is;
-          records = records-are;
-          list = list-is;
+          outstanding = outstanding-is;
           number = number-is;
           counted = counted-is;
           bounded = bounded-is;
+          rising = rising-is;
         }

@@ -1,37 +1,96 @@
--- 01, "Demand 3 is a single claim about the whole sequence": a pass served item by item, by the board and by the steps of each crate alone.
-use Prim.Native.Nat.{ℕ, _+_, _*_, _<_, _≤_}
+-- 01, "Demand 3 is a single claim about the whole sequence, of any length and the empty one too": its definitions in the order of the paragraph,
+-- and the claim (`AnyOrder`).
+use Prim.Native.Nat.{ℕ, suc, _+_, _*_, _<_, _≤_}
 use mathlib.Core.Path.{_≡_}
-use mathlib.Core.Bool.{Bool, true, false, cond, _&&_}
+use mathlib.Core.Bool.{Bool, true, false, cond, not, _&&_}
 use mathlib.Core.List.{List, [], _∷_, _++_, map}
-use lib.Dec.{ltb}
-use lib.ListN.{length, take}
-use Rattle.refusals.specs.Tables.{Answer, given, refused, lowest}
-use Rattle.commands.specs.declared.Command.{Command}
-use Rattle.commands.specs.declared.Command.the-variants.{Read, Write, Start, Stop, Ping, CrateReset}
-use Rattle.configuration.specs.Configuration.{activeWord}
-use Rattle.ftu_list.specs.List.{answered, listBody}
+use lib.Dec.{ltb, leb}
+use lib.ListN.{length, getD, take, drop, replicate}
+use Rattle.refusals.specs.Tables.{Answer, given, refused, Rule, rule, lowest}
+use Rattle.refusals.specs.Writing.{Wrote}
+use Rattle.refusals.specs.declared.Written.{Written}
+use Rattle.commands.specs.declared.Command.the-variants.{Write, Ping}
+use Rattle.blocks.specs.Blocks.{headerWords, failureBody}
+use Rattle.ftu_list.specs.List.{listBody}
 use Rattle.steps.specs.Steps.{stepFrame}
 use Rattle.steps.specs.declared.Heard.{Heard}
-use Rattle.crate_pass.specs.Crate.{entriesIn, isDone}
+use Rattle.run.specs.Run.{refreshed}
+use Rattle.run.specs.declared.Run.{Run}
 use Rattle.crate_pass.specs.declared.PassKind.{PassKind}
 use Rattle.crate_pass.specs.declared.PassKind.the-variants.{Reprogramming}
 use Rattle.crate_pass.specs.declared.Outcome.{Outcome}
 use Rattle.crate_pass.specs.declared.Crate.{Crate}
-use Rattle.board.specs.State.{crateAt, isIdle, withCrates}
+use Rattle.board.specs.State.{crateAt, isIdle}
+use Rattle.board.specs.Commands.{boardAnswer, boardAfter}
 use Rattle.board.specs.SlowControl.{frameAt, fetchRules, replyAnswer, boardReplied, sentAnswer}
-use Rattle.board.specs.SentOut.{listOf}
+use Rattle.board.specs.SentOut.{headerOf, listRules, listOf, listDue, failureRules, failureDue}
 use Rattle.board.specs.declared.Board.{Board}
 use Rattle.cells.specs.Order.{only, from, ordered}
-use Rattle.any_order.specs.Steps.{Step, step, steps, servedFrom, Event, heard, Pass, Out, refusal, first, none, opened, react}
+use Rattle.any_order.specs.Steps.{Step, step, steps, servedFrom, Event, heard, Found, wordsFrom, howMany}
+use Rattle.any_order.specs.Steps.{Pass, begun, Result, refusal, first, none, react}
 
--- ---- items, on the board
+-- ---- items
 
 -- "An item is a crate number with a reply's bytes, of any length, or with a time-up"
 abbrev pub Item : Type 0
 Item = ℕ × Event
 
-abbrev pub crateOf : Item → ℕ
-crateOf x = x .0
+abbrev pub itemCrate : Item → ℕ
+itemCrate x = x .0
+
+-- an item, with what it got
+abbrev pub ItemResult : Type 0
+ItemResult = Item × Result
+
+abbrev pub resultCrate : ItemResult → ℕ
+resultCrate t = t .0 .0
+
+-- ---- the begin of the pass: "the accepted write or ping", a command in the words w on the board before
+
+pub data Begin : Type 0 where
+  write : List ℕ → Begin
+  ping : List ℕ → Begin
+
+-- what `obey` answers to the words: that it is accepted
+abbrev pub Accepted : Board → Begin → Type 0
+Accepted β (write w) = boardAnswer β w ≡ given Write
+Accepted β (ping w) = boardAnswer β w ≡ given Ping
+
+-- "the state that the accepted write or ping returned"
+abbrev pub startOf : Board → Begin → Board
+startOf β (write w) = boardAfter β w
+startOf β (ping w) = boardAfter β w
+
+-- "the kind of pass"
+abbrev pub kindOf : Begin → PassKind
+kindOf (write w) = Reprogramming
+kindOf (ping w) = PassKind.Ping
+
+-- "the stored block": a write stores the one in its words, "then a data block where one is due"; a ping leaves it as it was
+abbrev pub blockOf : Board → Begin → List ℕ
+blockOf β (write w) = take 436 (drop 5 w)
+blockOf β (ping w) = β .block
+
+-- "Word 0x1B0 + c holds crate c's active flags"
+abbrev pub wordOf : List ℕ → ℕ → ℕ
+wordOf block c = getD block (0x1B0 + c) 0
+
+-- "the four active words as stored when the ping began"; a write leaves those of the last ping
+abbrev pub activeOf : Board → Begin → List ℕ
+activeOf β (write w) = β .active
+activeOf β (ping w) = wordOf (β .block) 0 ∷ wordOf (β .block) 1 ∷ wordOf (β .block) 2 ∷ wordOf (β .block) 3 ∷ []
+
+-- "A write .. sets fresh"
+abbrev pub runOf : Board → Begin → Run
+runOf β (write w) = refreshed (β .run)
+runOf β (ping w) = β .run
+
+-- the state in a pass that so began: what is above, the crates cs, and the rest as before
+unfoldable pub begunBoard : Board → Begin → List Crate → Board
+begunBoard β g cs =
+    record { identity = β .identity; run = runOf β g; block = blockOf β g; kind = kindOf g; active = activeOf β g; crates = cs }
+
+-- ---- the items on the board
 
 -- what an item says on the board: `reply` and `time_up` promise the answer and the next state that it then gets
 abbrev pub heardOn : Board → Item → Heard
@@ -56,129 +115,188 @@ abbrev pub sentAfter : Answer Outcome → List (List ℕ) → List (List ℕ)
 sentAfter (given o) frames = frames
 sentAfter (refused n p) frames = []
 
-unfoldable pub outOf : Board → Item → Out
-outOf β x = record { answer = answerTo β x; frames = sentAfter (answerTo β x) (fetched (afterItem β x) (x .0)) }
-
--- an item, with what it got
-abbrev pub Entry : Type 0
-Entry = Item × Out
-
-abbrev pub crateOfEntry : Entry → ℕ
-crateOfEntry t = t .0 .0
+unfoldable pub resultOf : Board → Item → Result
+resultOf β x = record { answer = answerTo β x; frames = sentAfter (answerTo β x) (fetched (afterItem β x) (x .0)) }
 
 -- "The first gets the state that the accepted write or ping returned, each later one the state that the one before returned, refused or not"
-unfoldable pub trace : Board → List Item → List Entry
-trace β [] = []
-trace β (x ∷ xs) = (x, outOf β x) ∷ trace (afterItem β x) xs
+unfoldable pub results : Board → List Item → List ItemResult
+results β [] = []
+results β (x ∷ xs) = (x, resultOf β x) ∷ results (afterItem β x) xs
 
 unfoldable pub final : Board → List Item → Board
 final β [] = β
 final β (x ∷ xs) = final (afterItem β x) xs
 
--- ---- the same items, on the steps of one crate
+-- what items get after the begin, and the state at the end
+abbrev pub resultsAfter : Board → Begin → List Item → List ItemResult
+resultsAfter β g xs = results (startOf β g) xs
 
-unfoldable pub passTrace : (Step → List ℕ) → Pass → List Item → List Entry
-passTrace line p [] = []
-passTrace line p (x ∷ xs) = (x, react line (x .1) p .0) ∷ passTrace line (react line (x .1) p .1) xs
+abbrev pub boardAtEnd : Board → Begin → List Item → Board
+boardAtEnd β g xs = final (startOf β g) xs
 
-unfoldable pub passEnd : (Step → List ℕ) → Pass → List Item → Pass
-passEnd line p [] = p
-passEnd line p (x ∷ xs) = passEnd line (react line (x .1) p .1) xs
+-- ---- the frames sent on a crate, and their number
 
--- "for the kind of pass, the stored block and that crate's items alone": crate c's word of active flags, a step's frame, the pass as it
--- begins, the crate's own items, and the pass at the end
-abbrev pub wordOf : Board → ℕ → ℕ
-wordOf start c = activeWord (start .block) c
-
-abbrev pub lineOf : Board → ℕ → Step → List ℕ
-lineOf start c s = stepFrame (start .block) c (s .board) (s .code)
-
-abbrev pub openedOn : Board → ℕ → Pass
-openedOn start c = opened (steps (start .kind) (wordOf start c)) (entriesIn (crateAt start c))
-
-abbrev pub endOn : Board → ℕ → List Item → Pass
-endOn start c xs = passEnd (lineOf start c) (openedOn start c) (only crateOf c xs)
-
--- ---- the frames, and their number
-
-unfoldable pub framesIn : List Entry → List (List ℕ)
+unfoldable pub framesIn : List ItemResult → List (List ℕ)
 framesIn [] = []
 framesIn (t ∷ ts) = t .1 .frames ++ framesIn ts
 
 -- "the one outstanding when the pass begins, and after each accepted reply or time-up for it the one then outstanding"
-abbrev pub framesOn : Board → ℕ → List Item → List (List ℕ)
-framesOn start c xs = fetched start c ++ framesIn (only crateOfEntry c (trace start xs))
+abbrev pub framesOn : Board → Begin → ℕ → List Item → List (List ℕ)
+framesOn β g c xs = fetched (startOf β g) c ++ framesIn (only resultCrate c (resultsAfter β g xs))
 
-abbrev pub accepted : Answer Outcome → Bool
-accepted (given o) = true
-accepted (refused n p) = false
+abbrev pub isAccepted : Answer Outcome → Bool
+isAccepted (given o) = true
+isAccepted (refused n p) = false
 
-unfoldable pub acceptedIn : List Entry → ℕ
+unfoldable pub acceptedIn : List ItemResult → ℕ
 acceptedIn [] = 0
-acceptedIn (t ∷ ts) = cond (accepted (t .1 .answer)) 1 0 + acceptedIn ts
+acceptedIn (t ∷ ts) = cond (isAccepted (t .1 .answer)) 1 0 + acceptedIn ts
 
 -- at most nine frames for each active board; in a ping three for each of ten
 abbrev pub mostFrames : PassKind → ℕ → ℕ
 mostFrames Reprogramming w = 9 * servedFrom Reprogramming w 10 0
 mostFrames PassKind.Ping w = 30
 
+-- ---- the same items, on the steps of one crate
+
+unfoldable pub passResults : (Step → List ℕ) → Pass → List Item → List ItemResult
+passResults frame p [] = []
+passResults frame p (x ∷ xs) = (x, react frame (x .1) p .0) ∷ passResults frame (react frame (x .1) p .1) xs
+
+unfoldable pub passEnd : (Step → List ℕ) → Pass → List Item → Pass
+passEnd frame p [] = p
+passEnd frame p (x ∷ xs) = passEnd frame (react frame (x .1) p .1) xs
+
+-- of all four: that of crate 0, then those of 1, 2 and 3
+abbrev pub ofFour : {A : Type 0} → (ℕ → List A) → List A
+ofFour f = f 0 ++ (f 1 ++ (f 2 ++ f 3))
+
+-- "what the steps above give for the kind of pass, the stored block and that crate's items alone"
+module _ (β : Board) (g : Begin) where
+  -- the bytes of a step's frame on crate c
+  abbrev pub frameOn : ℕ → Step → List ℕ
+  frameOn c s = stepFrame (blockOf β g) c (s .board) (s .code)
+
+  abbrev pub passOn : ℕ → Pass
+  passOn c = begun (steps (kindOf g) (wordOf (blockOf β g) c))
+
+  abbrev pub resultsOn : ℕ → List Item → List ItemResult
+  resultsOn c xs = passResults (frameOn c) (passOn c) (only itemCrate c xs)
+
+  abbrev pub endOn : ℕ → List Item → Pass
+  endOn c xs = passEnd (frameOn c) (passOn c) (only itemCrate c xs)
+
+  -- ---- all four crates together
+
+  abbrev pub doneOn : ℕ → List Item → Bool
+  doneOn c xs = none (endOn c xs .todo)
+
+  abbrev pub allDone : List Item → Bool
+  allDone xs = doneOn 0 xs && doneOn 1 xs && doneOn 2 xs && doneOn 3 xs
+
+  -- the frames of the steps that failed: "Records stand in rising k", those of crate 0 first
+  abbrev pub failuresOn : ℕ → List Item → List (List ℕ)
+  failuresOn c xs = map (frameOn c) (endOn c xs .failed)
+
+  unfoldable pub failures : List Item → List (List ℕ)
+  failures xs = ofFour (λ c. failuresOn c xs)
+
+  -- "9: .. list or records asked for during a pass"
+  abbrev pub duringPass : List Item → Rule
+  duringPass xs = rule 9 (not (allDone xs))
+
+  abbrev pub recordRules : ℕ → List Item → List Rule
+  recordRules n xs = duringPass xs ∷ rule 18 (leb (length (failures xs)) n) ∷ []
+
+  abbrev pub answeredOn : ℕ → List Item → ℕ
+  answeredOn c xs = howMany (endOn c xs .boards)
+
+  abbrev pub boardsOn : ℕ → List Item → List ℕ
+  boardsOn c xs = wordsFrom c 0 (endOn c xs .boards)
+
+  -- a ping's list: "boards that answered; the same for each crate; the four active words as stored when the ping began; then six for each board"
+  unfoldable pub pingList : List Item → List ℕ
+  pingList xs =
+      (answeredOn 0 xs + answeredOn 1 xs + answeredOn 2 xs + answeredOn 3 xs)
+      ∷ answeredOn 0 xs
+      ∷ answeredOn 1 xs
+      ∷ answeredOn 2 xs
+      ∷ answeredOn 3 xs
+      ∷ (activeOf β g ++ ofFour (λ c. boardsOn c xs))
+
+-- the FTU list: "A ping clears the list as it begins; no other command changes it"
+abbrev pub listAfter : Board → Begin → List Item → List ℕ
+listAfter β (write w) xs = listBody (listOf β)
+listAfter β (ping w) xs = pingList β (ping w) xs
+
+-- the list as the pass begins: as before the write, or the active words as stored and no entry
+abbrev pub listBegun : Board → Begin → List ℕ
+listBegun β (write w) = listBody (listOf β)
+listBegun β (ping w) = replicate 5 0 ++ (activeOf β (ping w) ++ replicate 240 0)
+
+-- each board is above the one before, from b on, and none above 9
+abbrev pub Rising : ℕ → List Step → Type 0
+Rising b [] = Unit
+Rising b (s ∷ ss) = (b ≤ s .board) × (s .board < 10) × Rising (suc (s .board)) ss
+
+-- ---- the claim
+
 -- the outstanding step of a crate, where there is one
 unfoldable pub stepOf : Crate → List Step
 stepOf k = cond (ltb (k .board) 10) (step (k .board) (k .code) ∷ []) []
 
--- ---- the claim
-
--- "Each crate's answers, refusals, frames, place in the pass, number, records and, in a ping, list entries equal what the steps above give for
--- the kind of pass, the stored block and that crate's items alone"
-pub record Alone (start : Board) (c : ℕ) (xs : List Item) : Type 0 where
-  pub entries : only crateOfEntry c (trace start xs) ≡ passTrace (lineOf start c) (openedOn start c) (only crateOf c xs)
-  pub frames : framesOn start c xs ≡ map (lineOf start c) (first (openedOn start c .todo)) ++ framesIn (passTrace (lineOf start c) (openedOn start c) (only crateOf c xs))
-  pub place : stepOf (crateAt (final start xs) c) ≡ first (endOn start c xs .todo)
-  pub outstanding : fetched (final start xs) c ≡ map (lineOf start c) (first (endOn start c xs .todo))
-  pub done : isDone (crateAt (final start xs) c) ≡ none (endOn start c xs .todo)
-  pub tries : crateAt (final start xs) c .tries ≡ endOn start c xs .tries
-  pub records : crateAt (final start xs) c .failed ≡ endOn start c xs .failed
-  pub list : entriesIn (crateAt (final start xs) c) ≡ endOn start c xs .entries
+-- "Each crate's answers, refusals, frames, place in the pass, number .. equal what the steps above give for the kind of pass, the stored block and
+-- that crate's items alone"
+pub record Alone (β : Board) (g : Begin) (c : ℕ) (xs : List Item) : Type 0 where
+  pub answers : only resultCrate c (resultsAfter β g xs) ≡ resultsOn β g c xs
+  pub frames : framesOn β g c xs ≡ map (frameOn β g c) (first (passOn β g c .todo)) ++ framesIn (resultsOn β g c xs)
+  -- the place: the outstanding step, how many sends of it failed, and its frame as `outstanding_frame` gives it
+  pub place : stepOf (crateAt (boardAtEnd β g xs) c) ≡ first (endOn β g c xs .todo)
+  pub tries : crateAt (boardAtEnd β g xs) c .tries ≡ endOn β g c xs .tries
+  pub outstanding : fetched (boardAtEnd β g xs) c ≡ map (frameOn β g c) (first (endOn β g c xs .todo))
   -- "The number of frames sent on a crate", as `frames_sent` reports it: it is that of the frames above, "the accepted replies and time-ups of
   -- this pass, and one more while a frame is outstanding", and bounded
-  pub number : sentAnswer (final start xs) c ≡ given (length (framesOn start c xs))
-  pub counted : length (framesOn start c xs) ≡ acceptedIn (only crateOfEntry c (trace start xs)) + length (fetched (final start xs) c)
-  pub bounded : length (framesOn start c xs) ≤ mostFrames (start .kind) (wordOf start c)
+  pub number : sentAnswer (boardAtEnd β g xs) c ≡ given (length (framesOn β g c xs))
+  pub counted : length (framesOn β g c xs)
+      ≡ acceptedIn (only resultCrate c (resultsAfter β g xs)) + length (fetched (boardAtEnd β g xs) c)
+  pub bounded : length (framesOn β g c xs) ≤ mostFrames (kindOf g) (wordOf (blockOf β g) c)
+  -- "Records stand in rising k": so do the steps that failed
+  pub rising : Rising 0 (endOn β g c xs .failed)
 
 -- the items for no crate: each is refused with 11
-unfoldable pub refusedAll : List Item → List Entry
+unfoldable pub refusedAll : List Item → List ItemResult
 refusedAll [] = []
 refusedAll (x ∷ xs) = (x, refusal 11) ∷ refusedAll xs
 
-abbrev pub doneOn : Board → ℕ → List Item → Bool
-doneOn start c xs = none (endOn start c xs .todo)
+-- the second order: crate 0's items come first, then 1's, 2's and 3's, each in their own order, and "the items for a crate above 3 stand last"
+abbrev pub inOrder : List Item → List Item
+inOrder xs = ordered itemCrate 4 xs
 
-abbrev pub answeredOn : Board → ℕ → List Item → ℕ
-answeredOn start c xs = answered (endOn start c xs .entries)
-
--- Demand 3, of the state that an accepted write or ping returned, and any items. In the second order crate 0's come first, then 1's, 2's and
--- 3's, each in their own order, and "the items for a crate above 3 stand last"
-pub record AnyOrder (start : Board) (xs : List Item) : Type 0 where
+-- Demand 3, of any board, an accepted write or ping on it, and any items
+pub record AnyOrder (β : Board) (g : Begin) (xs : List Item) : Type 0 where
+  -- "the state that the accepted write or ping returned" has the kind, the block, the active words and the list that the board before and the command's
+  -- words say
+  pub start : startOf β g ≡ begunBoard β g (startOf β g .crates)
+  pub begun-list : listBody (listOf (startOf β g)) ≡ listBegun β g
   -- the same item gets the same answer, and the same frames are sent after it
-  pub entries : trace start (ordered crateOf 4 xs) ≡ ordered crateOfEntry 4 (trace start xs)
+  pub answers : resultsAfter β g (inOrder xs) ≡ ordered resultCrate 4 (resultsAfter β g xs)
+  -- each crate is sent the same frames in the same order
+  pub frames : (c : ℕ) → c < 4 → framesOn β g c (inOrder xs) ≡ framesOn β g c xs
   -- "Final states are compared in everything that is part of the state"
-  pub state : final start (ordered crateOf 4 xs) ≡ final start xs
-  pub alone : (c : ℕ) → c < 4 → Alone start c xs
-  pub above : from crateOfEntry 4 (trace start xs) ≡ refusedAll (from crateOf 4 xs)
-  -- "The rest of the final state is as in the first, but that the board is idle once all four are done and, in a ping, the list's counts are
-  -- those of its boards that answered"
-  pub rest : final start xs ≡ withCrates start (final start xs .crates)
-  pub idle : isIdle (final start xs) ≡ (doneOn start 0 xs && doneOn start 1 xs && doneOn start 2 xs && doneOn start 3 xs)
-  pub counts : start .kind ≡ PassKind.Ping
-      → take 5 (listBody (listOf (final start xs)))
-      ≡ (answeredOn start 0 xs + answeredOn start 1 xs + answeredOn start 2 xs + answeredOn start 3 xs)
-      ∷ answeredOn start 0 xs ∷ answeredOn start 1 xs ∷ answeredOn start 2 xs ∷ answeredOn start 3 xs ∷ []
-
--- the commands that begin a pass
-abbrev pub beginsPass : Command → Bool
-beginsPass (Read kind) = false
-beginsPass Write = true
-beginsPass (Start run) = false
-beginsPass Stop = false
-beginsPass Ping = true
-beginsPass (CrateReset c) = false
+  pub state : boardAtEnd β g (inOrder xs) ≡ boardAtEnd β g xs
+  pub alone : (c : ℕ) → c < 4 → Alone β g c xs
+  pub above : from resultCrate 4 (resultsAfter β g xs) ≡ refusedAll (from itemCrate 4 xs)
+  -- "records and, in a ping, list entries": what `failure_message` answers for each ordinal, and `ftu_list`, with any output lent, is by the table and
+  -- with the words that the steps give
+  pub records : (n : ℕ) (out : List ℕ) (r : Written) (after : List ℕ)
+      → Wrote (failureRules (boardAtEnd β g xs) n) (failureDue (boardAtEnd β g xs) n) out r after
+      → Wrote (recordRules β g n xs) (headerWords (headerOf β) ++ failureBody 3 (getD (failures β g xs) n [])) out r after
+  pub records-most : length (failures β g xs) ≤ 40
+  pub list : (out : List ℕ) (r : Written) (after : List ℕ)
+      → Wrote (listRules (boardAtEnd β g xs)) (listDue (boardAtEnd β g xs)) out r after
+      → Wrote (duringPass β g xs ∷ []) (headerWords (headerOf β) ++ listAfter β g xs) out r after
+  -- the list itself, which `ftu_list` does not give during the pass
+  pub list-kept : listBody (listOf (boardAtEnd β g xs)) ≡ listAfter β g xs
+  -- "The rest of the final state is as in the first, but that the board is idle once all four are done"
+  pub rest : boardAtEnd β g xs ≡ begunBoard β g (boardAtEnd β g xs .crates)
+  pub idle : isIdle (boardAtEnd β g xs) ≡ allDone β g xs

@@ -14,22 +14,22 @@ use Rattle.board.specs.State.{crateAt, freshBoard}
 use Rattle.board.specs.declared.Board.{Board}
 use Rattle.any_order.specs.Steps.{steps}
 use Rattle.any_order.specs.AnyOrder.{wordOf, mostFrames}
-use Rattle.any_order.proofs.Bound.{bound-sent, most-frames}
-use Rattle.any_order.proofs.Served.{Runs, view-sent}
-use Rattle.any_order.proofs.Cursor.{view}
+use Rattle.any_order.proofs.Frames.{bound-sent, most-frames}
+use Rattle.any_order.proofs.Runs.{Runs}
+use Rattle.any_order.proofs.Walks.{view}
 use Rattle.reachable.specs.Reachable.{Reachable}
 use Rattle.reachable.proofs.OneCall.{false≢true}
 
 -- What is kept by every call: with what is claimed, that each crate with a frame outstanding is in a pass of the last kind begun
 pub record Holds (β : Board) : Type 0 where
   pub reaches : Reachable β
-  pub walks : (c : ℕ) → c < 4 → isDone (crateAt β c) ≡ false → Runs (β .kind) (wordOf β c) (crateAt β c)
+  pub walks : (c : ℕ) → c < 4 → isDone (crateAt β c) ≡ false → Runs (β .kind) (wordOf (β .block) c) (crateAt β c)
 
 pub holds-reachable : (β : Board) → Holds β → Reachable β
 holds-reachable β h = h .reaches
 
 pub runs-number : (kind : PassKind) (w : ℕ) (k : Crate) → Runs kind w k → k .sent ≤ mostFrames kind w
-runs-number kind w k r = omega (arith, bound-sent (length (steps kind w)) (view kind w k) (r .bound), view-sent kind w k, most-frames kind w)
+runs-number kind w k r = omega (arith, bound-sent (length (steps kind w)) (k .sent) (view kind w k) (r .bound), most-frames kind w)
 
 -- ---- power-up
 

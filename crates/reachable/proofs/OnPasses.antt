@@ -23,11 +23,11 @@ use Rattle.board.specs.Commands.{boardAnswer, blockIn, written, pinged, carried
 use Rattle.board.specs.SlowControl.{frameAt, replyAnswer, boardReplied}
 use Rattle.board.specs.declared.Board.{Board}
 use Rattle.any_order.specs.Steps.{Event, heard}
-use Rattle.any_order.specs.AnyOrder.{wordOf, mostFrames, beginsPass}
+use Rattle.any_order.specs.AnyOrder.{Begin, write, ping, Accepted, startOf, wordOf, mostFrames}
 use Rattle.any_order.proofs.Begun.{Begun, begun-after}
-use Rattle.any_order.proofs.OneCrate.{runs-start}
 use Rattle.board.proofs.Serving.{board-low, board-high}
-use Rattle.any_order.proofs.Served.{Runs, crateStep, step-runs}
+use Rattle.any_order.proofs.Served.{crateStep}
+use Rattle.any_order.proofs.Runs.{Runs, step-runs}
 use Rattle.reachable.proofs.Accepted.{block-length, block-within}
 use Rattle.reachable.proofs.OneCall.{false≢true}
 use Rattle.reachable.proofs.Holding.{Holds, runs-number}
@@ -47,27 +47,30 @@ holds-begun β γ h e b c l w =
         length-block = l;
         within = w;
         four = b .four;
-        number = λ n m. runs-number (γ .kind) (wordOf γ n) (crateAt γ n) (runs-start γ b n m);
+        number = λ n m. runs-number (γ .kind) (wordOf (γ .block) n) (crateAt γ n) (b .runs n m);
         apart = rw (b .still);
       };
-      walks = λ n m d. runs-start γ b n m;
+      walks = λ n m d. b .runs n m;
     }
 
 -- the state after an accepted command that begins a pass
-begun-by : (β : Board) (w : List ℕ) (c : Command) → boardAnswer β w ≡ given c → beginsPass c ≡ true → Begun (carriedOut β (blockIn w) c)
-begun-by β w c e p = subst (λ (a : Answer Command). Begun (afterCommand β (blockIn w) a)) e (begun-after β w c e p)
+begun-write : (β : Board) (w : List ℕ) → boardAnswer β w ≡ given Write → Begun (written β (blockIn w))
+begun-write β w e = subst (λ (a : Answer Command). Begun (afterCommand β (blockIn w) a)) e (begun-after β (write w) e)
+
+begun-ping : (β : Board) (w : List ℕ) → boardAnswer β w ≡ given Ping → Begun (pinged β)
+begun-ping β w e = subst (λ (a : Answer Command). Begun (afterCommand β (blockIn w) a)) e (begun-after β (ping w) e)
 
 pub holds-write : (β : Board) (w : List ℕ) → boardAnswer β w ≡ given Write → Holds β → Holds (written β (blockIn w))
 unfolding written
 holds-write β w e h =
     let c = counters-of β h in
-    holds-begun β (written β (blockIn w)) h refl (begun-by β w Write e refl)
+    holds-begun β (written β (blockIn w)) h refl (begun-write β w e)
     (record { timestamp = c .timestamp; on-time = c .on-time; counter = c .counter }) (block-length β w e) (block-within β w e)
 
 pub holds-ping : (β : Board) (w : List ℕ) → boardAnswer β w ≡ given Ping → Holds β → Holds (pinged β)
 unfolding pinged
 holds-ping β w e h =
-    holds-begun β (pinged β) h refl (begun-by β w Ping e refl) (counters-of β h) (h .reaches .length-block) (h .reaches .within)
+    holds-begun β (pinged β) h refl (begun-ping β w e) (counters-of β h) (h .reaches .length-block) (h .reaches .within)
 
 -- ---- replies and time-ups
 
@@ -106,7 +109,7 @@ at-set cs c k l P new n old = go (eqb c n) refl
     go false e = subst (P n) (sym (getD-set-other cs c n k noCrate (λ q. eqb-false c n e (sym q)))) old
 
 -- the crate c moved on in its pass
-holds-crate : (β : Board) (c : ℕ) (k : Crate) → c < 4 → isDone (crateAt β c) ≡ false → Runs (β .kind) (wordOf β c) k → Holds β → Holds (withCrates β (set (β .crates) c k))
+holds-crate : (β : Board) (c : ℕ) (k : Crate) → c < 4 → isDone (crateAt β c) ≡ false → Runs (β .kind) (wordOf (β .block) c) k → Holds β → Holds (withCrates β (set (β .crates) c k))
 unfolding withCrates
 holds-crate β c k h d r s =
     let q = s .reaches in
@@ -121,10 +124,10 @@ holds-crate β c k h d r s =
         length-block = q .length-block;
         within = q .within;
         four = length-set (β .crates) c k ∙ q .four;
-        number = λ n m. at-set (β .crates) c k l (λ i j. j .sent ≤ mostFrames (β .kind) (wordOf β i)) (runs-number (β .kind) (wordOf β c) k r) n (q .number n m);
+        number = λ n m. at-set (β .crates) c k l (λ i j. j .sent ≤ mostFrames (β .kind) (wordOf (β .block) i)) (runs-number (β .kind) (wordOf (β .block) c) k r) n (q .number n m);
         apart = rw (pass-apart (isRunning (β .run)) (β .crates) c h d (q .apart));
       };
-      walks = λ n m. at-set (β .crates) c k l (λ i j. isDone j ≡ false → Runs (β .kind) (wordOf β i) j) (λ e. r) n (s .walks n m);
+      walks = λ n m. at-set (β .crates) c k l (λ i j. isDone j ≡ false → Runs (β .kind) (wordOf (β .block) i) j) (λ e. r) n (s .walks n m);
     }
 
 replied-done : (β : Board) (c : ℕ) (h : Heard) → c < 4 → isDone (crateAt β c) ≡ true → boardReplied β c h ≡ β
@@ -136,9 +139,9 @@ abbrev heardOn : Board → ℕ → Event → Heard
 heardOn β c e = heard (frameAt β c) e
 
 abbrev next : Board → ℕ → Event → Crate
-next β c e = crateAfter (β .kind) (wordOf β c) (crateAt β c) (heardOn β c e)
+next β c e = crateAfter (β .kind) (wordOf (β .block) c) (crateAt β c) (heardOn β c e)
 
-runs-next : (β : Board) (c : ℕ) (e : Event) → Runs (β .kind) (wordOf β c) (crateAt β c) → Runs (β .kind) (wordOf β c) (next β c e)
+runs-next : (β : Board) (c : ℕ) (e : Event) → Runs (β .kind) (wordOf (β .block) c) (crateAt β c) → Runs (β .kind) (wordOf (β .block) c) (next β c e)
 unfolding crateStep frameAt
 runs-next β c e r = step-runs (β .kind) (β .block) c (crateAt β c) e r
 

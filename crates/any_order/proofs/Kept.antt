@@ -1,0 +1,181 @@
+-- What a crate keeps of its boards stands for the steps that failed (`failedSteps`), and for what a ping found (`boardsOf`).
+-- Assumes nothing.
+use Prim.Native.Nat.{ℕ, zero, suc, _+_, _<_, _≤_}
+use mathlib.Core.Path.{_≡_, refl, sym, ap, ap₂, _∙_, subst}
+use mathlib.Core.List.{List, [], _∷_, _++_, map, append-nil, append-assoc}
+use mathlib.Core.Bool.{Bool, true, false, cond}
+use native.Mathlib.Omega.{arith}
+use lib.ListN.{length, getD, set, replicate}
+use lib.Seq.{getD-set-same, getD-set-other}
+use lib.Dec.{ltb, eqb}
+use borrow.Author.Tests.{ltb-true, ltb-false, lt-ltb, eq-eqb, ne-eqb}
+use Rattle.ftu_list.specs.declared.Entry.{Entry}
+use Rattle.steps.specs.declared.Heard.{Heard}
+use Rattle.crate_pass.specs.Crate.{entriesFrom, entriesIn, callsAt, notedIn, noted}
+use Rattle.crate_pass.proofs.Entries.{entry, entries-set}
+use Rattle.crate_pass.specs.declared.PassKind.{PassKind}
+use Rattle.crate_pass.specs.declared.PassKind.the-variants.{Reprogramming, Ping}
+use Rattle.crate_pass.specs.declared.Crate.{Crate}
+use Rattle.any_order.specs.Steps.{Step, step, Found, nothing, found, foundBy}
+use Rattle.any_order.specs.AnyOrder.{Rising}
+use Rattle.any_order.proofs.Places.{Code, one, two, three, four}
+
+-- ---- the steps that failed
+
+-- a board's, where its code is not 0
+abbrev pub failedStep : ℕ → ℕ → List Step
+failedStep b code = cond (eqb code 0) [] (step b code ∷ [])
+
+-- those of the first n boards
+unfoldable pub failedSteps : List ℕ → ℕ → List Step
+failedSteps codes zero = []
+failedSteps codes (suc n) = failedSteps codes n ++ failedStep n (getD codes n 0)
+
+-- the same, from a board on
+abbrev pub failedFrom : List ℕ → ℕ → ℕ → List Step
+failedFrom codes zero b = []
+failedFrom codes (suc n) b = failedStep b (getD codes b 0) ++ failedFrom codes n (suc b)
+
+pub failed-split : (codes : List ℕ) (n b : ℕ) → failedSteps codes b ++ failedFrom codes n b ≡ failedSteps codes (b + n)
+unfolding failedSteps
+failed-split codes zero b = append-nil (failedSteps codes b) ∙ ap (failedSteps codes) (let e : b ≡ b + 0 = omega arith in e)
+failed-split codes (suc n) b =
+    sym (append-assoc (failedSteps codes b) (failedStep b (getD codes b 0)) (failedFrom codes n (suc b)))
+    ∙ failed-split codes n (suc b)
+    ∙ ap (failedSteps codes) (let e : suc b + n ≡ b + suc n = omega arith in e)
+
+-- they are in rising order, and no more than there are boards
+rising-less : (a b : ℕ) (ss : List Step) → a ≤ b → Rising b ss → Rising a ss
+rising-less a b [] h r = tt
+rising-less a b (s ∷ ss) h r = (let l = r .0 in omega arith, r .1, r .2)
+
+rising-from : (codes : List ℕ) (n b : ℕ) → b + n ≤ 10 → Rising b (failedFrom codes n b)
+rising-from codes zero b h = tt
+rising-from codes (suc n) b h = go (eqb (getD codes b 0) 0) (rising-from codes n (suc b) (omega arith))
+  where
+    go : (t : Bool) → Rising (suc b) (failedFrom codes n (suc b)) → Rising b (cond t [] (step b (getD codes b 0) ∷ []) ++ failedFrom codes n (suc b))
+    go true r = rising-less b (suc b) (failedFrom codes n (suc b)) (omega arith) r
+    go false r = (omega arith, omega arith, r)
+
+pub failed-rising : (codes : List ℕ) → Rising 0 (failedSteps codes 10)
+unfolding failedSteps
+failed-rising codes = subst (Rising 0) (failed-split codes 10 0) (rising-from codes 10 0 (omega arith))
+
+pub rising-most : (b : ℕ) (ss : List Step) → b ≤ 10 → Rising b ss → b + length ss ≤ 10
+rising-most b [] h r = omega arith
+rising-most b (s ∷ ss) h r = let q = rising-most (suc (s .board)) ss (let l = r .1 in omega arith) (r .2) in let l = r .0 in omega arith
+
+-- no board from b on has failed
+abbrev pub NoneFrom : ℕ → List ℕ → Type 0
+NoneFrom b codes = (j : ℕ) → b ≤ j → getD codes j 0 ≡ 0
+
+failed-none : (b code : ℕ) → code ≡ 0 → failedStep b code ≡ []
+failed-none b code e = rw (eq-eqb _ _ e)
+
+failed-one : (b code : ℕ) → (code ≡ 0 → ⊥) → failedStep b code ≡ step b code ∷ []
+failed-one b code e = rw (ne-eqb _ _ e)
+
+module _ (codes : List ℕ) (b code : ℕ) (h : b < length codes) (nonzero : code ≡ 0 → ⊥) (clear : NoneFrom b codes) where
+  -- the boards before it keep theirs
+  failed-before : (n : ℕ) → n ≤ b → failedSteps (set codes b code) n ≡ failedSteps codes n
+  unfolding failedSteps
+  failed-before zero l = refl
+  failed-before (suc n) l =
+      ap₂ (λ (ss : List Step) (c : ℕ). ss ++ failedStep n c) (failed-before n (omega arith)) (getD-set-other codes b n code 0 (λ q. omega arith))
+
+  failed-last : (n : ℕ) → n ≡ b → failedSteps (set codes b code) (suc n) ≡ failedSteps codes (suc n) ++ (step b code ∷ [])
+  unfolding failedSteps
+  failed-last n e =
+      rw e
+      (ap₂ (λ (ss : List Step) (c : ℕ). ss ++ failedStep b c) (failed-before b (omega arith)) (getD-set-same codes b code 0 h)
+      ∙ ap (λ (ss : List Step). failedSteps codes b ++ ss) (failed-one b code nonzero)
+      ∙ ap (λ (ss : List Step). ss ++ (step b code ∷ []))
+      (sym (ap (λ (ss : List Step). failedSteps codes b ++ ss) (failed-none b (getD codes b 0) (clear b (omega arith))) ∙ append-nil (failedSteps codes b))))
+
+  -- a failure is the last of them
+  pub failed-set : (n : ℕ) → b < n → failedSteps (set codes b code) n ≡ failedSteps codes n ++ (step b code ∷ [])
+  unfolding failedSteps
+  failed-set zero l = absurd (omega arith)
+  failed-set (suc n) l = go (ltb b n) refl (failed-set n)
+    where
+      go : (t : Bool) → ltb b n ≡ t → (b < n → failedSteps (set codes b code) n ≡ failedSteps codes n ++ (step b code ∷ []))
+          → failedSteps (set codes b code) (suc n) ≡ failedSteps codes (suc n) ++ (step b code ∷ [])
+      go true e ih =
+          let m : b < n = ltb-true _ _ e in
+          ap₂ (λ (ss : List Step) (c : ℕ). ss ++ failedStep n c) (ih m) (getD-set-other codes b n code 0 (λ q. omega arith))
+          ∙ ap (λ (ss : List Step). (failedSteps codes n ++ (step b code ∷ [])) ++ ss) (failed-none n (getD codes n 0) (clear n (omega arith)))
+          ∙ append-nil (failedSteps codes n ++ (step b code ∷ []))
+          ∙ ap (λ (ss : List Step). ss ++ (step b code ∷ []))
+          (sym (ap (λ (ss : List Step). failedSteps codes n ++ ss) (failed-none n (getD codes n 0) (clear n (omega arith))) ∙ append-nil (failedSteps codes n)))
+      go false e ih = let m : n ≤ b = ltb-false _ _ e in failed-last n (omega arith)
+
+  pub none-after : (j : ℕ) → b + 1 ≤ j → getD (set codes b code) j 0 ≡ 0
+  none-after j l = getD-set-other codes b j code 0 (λ q. omega arith) ∙ clear j (omega arith)
+
+-- ---- what a ping found
+
+-- of a board: nothing where it has no calls
+abbrev pub foundIn : Entry → Found
+foundIn e = cond (eqb (e .calls) 0) nothing (found (e .calls) (e .dna) (e .«crc_errors»))
+
+-- of the ten, in a ping; another pass looks at none of them
+abbrev pub boardsOf : PassKind → List Entry → List Found
+boardsOf Reprogramming entries = replicate 10 nothing
+boardsOf Ping entries = map foundIn entries
+
+map-set : (entries : List Entry) (i : ℕ) (e : Entry) → map foundIn (set entries i e) ≡ set (map foundIn entries) i (foundIn e)
+map-set [] i e = refl
+map-set (x ∷ entries) zero e = refl
+map-set (x ∷ entries) (suc i) e = ap (λ (fs : List Found). foundIn x ∷ fs) (map-set entries i e)
+
+-- the calls that the code counts are the sends
+pub calls-are : (tries : ℕ) → tries ≤ 2 → callsAt tries ≡ tries + 1
+calls-are tries h = go (ltb tries 2) refl
+  where
+    go : (t : Bool) → ltb tries 2 ≡ t → cond t (tries + 1) 3 ≡ tries + 1
+    go true e = refl
+    go false e = let k : 2 ≤ tries = ltb-false _ _ e in omega arith
+
+found-entry : (tries dna errors : ℕ) → foundIn (entry dna (tries + 1) errors) ≡ found (tries + 1) dna errors
+found-entry tries dna errors = let k : tries + 1 ≡ 0 → ⊥ = λ q. omega arith in rw (ne-eqb _ _ k)
+
+-- a note in the list is what the steps find
+noted-ping : (k : Crate) (h : Heard) → k .tries ≤ 2 → k .code ≡ 4
+    → map foundIn (entriesIn (noted k h)) ≡ foundBy (step (k .board) (k .code)) (k .tries) h (map foundIn (entriesIn k))
+unfolding noted notedIn foundBy
+noted-ping k h t e =
+    rw (eq-eqb _ _ e)
+    (ap (map foundIn) (entries-set (k .dna) (k .calls) (k .«crc_errors») (k .board) (h .dna) (callsAt (k .tries)) (h .«crc_errors»))
+    ∙ map-set (entriesIn k) (k .board) (entry (h .dna) (callsAt (k .tries)) (h .«crc_errors»))
+    ∙ ap (set (map foundIn (entriesIn k)) (k .board))
+    (ap (λ (n : ℕ). foundIn (entry (h .dna) n (h .«crc_errors»))) (calls-are (k .tries) t) ∙ found-entry (k .tries) (h .dna) (h .«crc_errors»)))
+
+found-other : (s : Step) (tries : ℕ) (h : Heard) (boards : List Found) → (s .code ≡ 4 → ⊥) → foundBy s tries h boards ≡ boards
+unfolding foundBy
+found-other s tries h boards e = rw (ne-eqb _ _ e)
+
+pub boards-noted : {kind : PassKind} {code : ℕ} → Code kind code → (k : Crate) (h : Heard) → k .code ≡ code → k .tries ≤ 2
+    → boardsOf kind (entriesIn (noted k h)) ≡ foundBy (step (k .board) (k .code)) (k .tries) h (boardsOf kind (entriesIn k))
+boards-noted one k h e t = sym (found-other (step (k .board) (k .code)) (k .tries) h (replicate 10 nothing) (λ q. omega arith))
+boards-noted two k h e t = sym (found-other (step (k .board) (k .code)) (k .tries) h (replicate 10 nothing) (λ q. omega arith))
+boards-noted three k h e t = sym (found-other (step (k .board) (k .code)) (k .tries) h (replicate 10 nothing) (λ q. omega arith))
+boards-noted four k h e t = noted-ping k h t e
+
+-- and in a reprogramming pass nothing is noted
+noted-none : (k : Crate) (h : Heard) → (k .code ≡ 4 → ⊥) → entriesIn (noted k h) ≡ entriesIn k
+unfolding noted notedIn
+noted-none k h e = rw (ne-eqb _ _ e)
+
+pub entries-stay : {kind : PassKind} {code : ℕ} → Code kind code → kind ≡ Reprogramming → (k : Crate) (h : Heard) → k .code ≡ code
+    → entriesIn (noted k h) ≡ entriesIn k
+entries-stay one p k h e = noted-none k h (λ q. omega arith)
+entries-stay two p k h e = noted-none k h (λ q. omega arith)
+entries-stay three p k h e = noted-none k h (λ q. omega arith)
+entries-stay four p k h e = absurd (no-ping p)
+  where
+    isPing : PassKind → ℕ
+    isPing Reprogramming = 0
+    isPing Ping = 1
+
+    no-ping : Ping ≡ Reprogramming → ⊥
+    no-ping q = let z : _≡_ {A = ℕ} 1 0 = ap isPing q in omega arith

@@ -1,0 +1,222 @@
+-- What `failure_message` and `ftu_list` answer after any items is what the steps give (`records-given`, `list-given`).
+-- Assumes nothing.
+use Prim.Native.Nat.{ℕ, zero, suc, _<_, _≤_}
+use mathlib.Core.Path.{_≡_, refl, sym, ap, ap₂, _∙_, subst}
+use mathlib.Core.List.{List, [], _∷_, _++_, map}
+use mathlib.Core.Bool.{Bool, true, false, not, _&&_, _||_}
+use native.Mathlib.Omega.{arith}
+use lib.Dec.{leb}
+use lib.ListN.{length, getD, length-append, length-map}
+use borrow.Author.Tests.{leb-false}
+use Rattle.refusals.specs.Tables.{Answer, given, refused, Rule, rule, lowest}
+use Rattle.refusals.specs.Writing.{writing, laid, Wrote}
+use Rattle.refusals.proofs.Tables.{Clear, given-clear, refused-more}
+use Rattle.refusals.specs.declared.Written.{Written}
+use Rattle.blocks.specs.Blocks.{headerWords, failureBody}
+use Rattle.blocks.specs.declared.Header.{Header}
+use Rattle.ftu_list.specs.List.{listBody}
+use Rattle.ftu_list.specs.declared.Entry.{Entry}
+use Rattle.ftu_list.specs.declared.FtuList.{FtuList}
+use Rattle.crate_pass.specs.Crate.{entriesIn, isDone}
+use Rattle.crate_pass.proofs.Entries.{entries-kept}
+use Rattle.crate_pass.specs.declared.PassKind.{PassKind}
+use Rattle.crate_pass.specs.declared.PassKind.the-variants.{Reprogramming}
+use Rattle.crate_pass.specs.declared.Crate.{Crate}
+use Rattle.four_crates.specs.FourCrates.{inPass, entriesOf, failure, records, recordAt}
+use Rattle.board.specs.State.{crateAt}
+use Rattle.board.specs.SentOut.{headerOf, listRules, listOf, listDue, failureRules, failedFrame, failureDue}
+use Rattle.board.specs.declared.Board.{Board}
+use Rattle.cells.specs.Order.{only}
+use Rattle.any_order.specs.Steps.{Found, wordsFrom, howMany, Pass}
+use Rattle.any_order.specs.AnyOrder.{Item, itemCrate, Begin, write, ping, Accepted, startOf, blockOf, wordOf, activeOf, begunBoard, final}
+use Rattle.any_order.specs.AnyOrder.{passEnd, frameOn, passOn, endOn, allDone}
+use Rattle.any_order.specs.AnyOrder.{ofFour, failuresOn, failures, duringPass, recordRules, pingList, listAfter, listBegun}
+use Rattle.any_order.proofs.Kept.{foundIn, failedSteps, rising-most}
+use Rattle.any_order.proofs.Fetch.{frameIn}
+use Rattle.any_order.proofs.Runs.{run-list}
+use Rattle.any_order.proofs.Begun.{crateBegun, runs-begun}
+use Rattle.any_order.proofs.Records.{recordFrame, records-are}
+use Rattle.any_order.proofs.Lists.{entries-same, length-end, list-body}
+use Rattle.any_order.proofs.OneCrate.{final-is, crate-is, done-is, failed-is, rising-is, boards-are, block-is}
+
+-- a frame is outstanding on some crate exactly where not all four are done
+some-outstanding : (d₀ d₁ d₂ d₃ : Bool) → (not d₀ || not d₁ || not d₂ || not d₃) ≡ not (d₀ && d₁ && d₂ && d₃)
+some-outstanding false d₁ d₂ d₃ = refl
+some-outstanding true false d₂ d₃ = refl
+some-outstanding true true false d₃ = refl
+some-outstanding true true true false = refl
+some-outstanding true true true true = refl
+
+-- the header says nothing that a pass changes
+header-begun : (β : Board) (g : Begin) (cs : List Crate) → headerOf (begunBoard β g cs) ≡ headerOf β
+unfolding begunBoard
+header-begun β (write w) cs = refl
+header-begun β (ping w) cs = refl
+
+module _ (β : Board) (g : Begin) (a : Accepted β g) (xs : List Item) where
+  abbrev last : Board
+  last = final (startOf β g) xs
+
+  pub in-pass : inPass (last .crates) ≡ not (allDone β g xs)
+  unfolding inPass
+  in-pass =
+      some-outstanding (isDone (crateAt last 0)) (isDone (crateAt last 1)) (isDone (crateAt last 2)) (isDone (crateAt last 3))
+      ∙ rw (done-is β g a xs 0 (omega arith), done-is β g a xs 1 (omega arith), done-is β g a xs 2 (omega arith), done-is β g a xs 3 (omega arith))
+
+  header-is : headerOf last ≡ headerOf β
+  header-is = ap headerOf (final-is β g a xs) ∙ header-begun β g _
+
+  -- ---- the records
+
+  frames-failed : (c : ℕ) → c < 4 → map (frameIn (last .block) c) (failedSteps (crateAt last c .failed) 10) ≡ failuresOn β g c xs
+  frames-failed c h = ap₂ (λ block ss. map (frameIn block c) ss) (block-is β g a xs) (failed-is β g a xs c h)
+
+  failures-are : map (recordFrame (last .block) (last .crates)) (records (last .crates)) ≡ failures β g xs
+  unfolding failures
+  failures-are =
+      records-are (last .block) (last .crates)
+      ∙ ap₂ _++_ (frames-failed 0 (omega arith))
+      (ap₂ _++_ (frames-failed 1 (omega arith)) (ap₂ _++_ (frames-failed 2 (omega arith)) (frames-failed 3 (omega arith))))
+
+  record-rules : (n : ℕ) → failureRules last n ≡ recordRules β g n xs
+  record-rules n =
+      ap₂ (λ (t : Bool) (m : ℕ). rule 9 t ∷ rule 18 (leb m n) ∷ []) in-pass
+      (sym (length-map (records (last .crates)) (recordFrame (last .block) (last .crates))) ∙ ap length failures-are)
+
+  failed-most : (c : ℕ) → c < 4 → length (failuresOn β g c xs) ≤ 10
+  failed-most c h =
+      omega (arith, length-map (endOn β g c xs .failed) (frameOn β g c), rising-most 0 (endOn β g c xs .failed) (omega arith) (rising-is β g a xs c h))
+
+  pub records-most : length (failures β g xs) ≤ 40
+  unfolding failures
+  records-most =
+      omega (
+        arith,
+        length-append (failuresOn β g 0 xs) (failuresOn β g 1 xs ++ (failuresOn β g 2 xs ++ failuresOn β g 3 xs)),
+        length-append (failuresOn β g 1 xs) (failuresOn β g 2 xs ++ failuresOn β g 3 xs),
+        length-append (failuresOn β g 2 xs) (failuresOn β g 3 xs),
+        failed-most 0 (omega arith),
+        failed-most 1 (omega arith),
+        failed-most 2 (omega arith),
+        failed-most 3 (omega arith),
+      )
+
+  -- ---- the list
+
+  active-is : last .active ≡ activeOf β g
+  unfolding begunBoard
+  active-is = ap (λ (γ : Board). γ .active) (final-is β g a xs)
+
+  ten-boards : (c : ℕ) → length (endOn β g c xs .boards) ≡ 10
+  ten-boards c = length-end (frameOn β g c) (passOn β g c) (only itemCrate c xs)
+
+-- a write leaves it
+list-write : (β : Board) (w : List ℕ) (a : Accepted β (write w)) (xs : List Item) → listBody (listOf (final (startOf β (write w)) xs)) ≡ listBody (listOf β)
+unfolding entriesOf
+list-write β w a xs =
+    ap₂ (λ (active : List ℕ) (entries : List Entry). listBody (record { active = active; entries = entries }))
+    (active-is β (write w) a xs)
+    (entries-same (final (startOf β (write w)) xs .crates) (β .crates) same 40 0 (omega arith))
+  where
+    same : (c : ℕ) → c < 4 → entriesIn (crateAt (final (startOf β (write w)) xs) c) ≡ entriesIn (crateAt β c)
+    same c h =
+        ap entriesIn (crate-is β (write w) a xs c h)
+        ∙ run-list (blockOf β (write w)) c (crateBegun β (write w) c) (only itemCrate c xs)
+        (runs-begun Reprogramming (wordOf (blockOf β (write w)) c) (crateAt β c) .fit)
+        ∙ entries-kept (wordOf (blockOf β (write w)) c) (crateAt β c)
+
+-- a ping fills it
+list-ping : (β : Board) (w : List ℕ) (a : Accepted β (ping w)) (xs : List Item) → listBody (listOf (final (startOf β (ping w)) xs)) ≡ pingList β (ping w) xs
+unfolding pingList
+list-ping β w a xs =
+    ap (λ (active : List ℕ). listBody (record { active = active; entries = entriesOf (last β (ping w) a xs .crates) })) (active-is β (ping w) a xs)
+    ∙ list-body (last β (ping w) a xs .crates) ten (word 0) (word 1) (word 2) (word 3)
+    ∙ rw (boards 0 (omega arith), boards 1 (omega arith), boards 2 (omega arith), boards 3 (omega arith))
+  where
+    word : ℕ → ℕ
+    word c = wordOf (β .block) c
+
+    boards : (c : ℕ) → c < 4 → map foundIn (entriesIn (crateAt (last β (ping w) a xs) c)) ≡ endOn β (ping w) c xs .boards
+    boards c h = boards-are β (ping w) a xs c h
+
+    ten : (c : ℕ) → c < 4 → length (entriesIn (crateAt (last β (ping w) a xs) c)) ≡ 10
+    ten c h =
+        sym (length-map (entriesIn (crateAt (last β (ping w) a xs) c)) foundIn) ∙ ap length (boards c h) ∙ ten-boards β (ping w) a xs c
+
+pub list-is : (β : Board) (g : Begin) (a : Accepted β g) (xs : List Item) → listBody (listOf (final (startOf β g) xs)) ≡ listAfter β g xs
+list-is β (write w) a xs = list-write β w a xs
+list-is β (ping w) a xs = list-ping β w a xs
+
+-- as the pass begins
+ping-begun : (β : Board) (w : List ℕ) → pingList β (ping w) [] ≡ listBegun β (ping w)
+unfolding pingList passEnd only
+ping-begun β w = refl
+
+pub list-begun : (β : Board) (g : Begin) → Accepted β g → listBody (listOf (startOf β g)) ≡ listBegun β g
+unfolding final
+list-begun β (write w) a = list-write β w a []
+list-begun β (ping w) a = list-ping β w a [] ∙ ping-begun β w
+
+-- ---- as the calls answer it
+
+-- where a row of the writer's own table applies, what would be due does not matter
+data Decided (rules : List Rule) : Type 0 where
+  clear : Clear rules → Decided rules
+  applies : (n p : ℕ) → lowest {A = ℕ} rules 0 ≡ refused n p → Decided rules
+
+decided : (rules : List Rule) → Decided rules
+decided rules = go (lowest {A = ℕ} rules 0) refl
+  where
+    go : (x : Answer ℕ) → lowest {A = ℕ} rules 0 ≡ x → Decided rules
+    go (given b) e = clear (given-clear rules 0 b e)
+    go (refused n p) e = applies n p e
+
+module _ (rules : List Rule) (due due′ out : List ℕ) (r : Written) (after : List ℕ) where
+  wrote-due : (Clear rules → due ≡ due′) → Wrote rules due out r after → Wrote rules due′ out r after
+  unfolding writing
+  wrote-due same w = go (decided rules)
+    where
+      go : Decided rules → Wrote rules due′ out r after
+      go (clear c) = subst (λ (d : List ℕ). Wrote rules d out r after) (same c) w
+      go (applies n p e) =
+          let q : writing rules due out ≡ refused n p = refused-more rules _ 0 (length due) n p e in
+          let q′ : writing rules due′ out ≡ refused n p = refused-more rules _ 0 (length due′) n p e in
+          record {
+            answer = w .answer ∙ q ∙ sym q′;
+            output = w .output ∙ ap (λ (x : Answer ℕ). laid x due out) q ∙ sym (ap (λ (x : Answer ℕ). laid x due′ out) q′);
+          }
+
+getD-mapped : {A : Type 0} (f : A → List ℕ) (l : List A) (n : ℕ) (d : A) → n < length l → f (getD l n d) ≡ getD (map f l) n []
+getD-mapped f [] n d h = absurd (omega arith)
+getD-mapped f (x ∷ l) zero d h = refl
+getD-mapped f (x ∷ l) (suc n) d h = getD-mapped f l n d (omega arith)
+
+module _ (β : Board) (g : Begin) (a : Accepted β g) (xs : List Item) where
+  -- the frame of the record with the ordinal n, where there is one
+  frame-is : (n : ℕ) → n < length (records (last β g a xs .crates))
+      → failedFrame (last β g a xs) (recordAt (last β g a xs .crates) n) ≡ getD (failures β g xs) n []
+  frame-is n h =
+      getD-mapped (recordFrame (last β g a xs .block) (last β g a xs .crates)) (records (last β g a xs .crates)) n (failure 0 0) h
+      ∙ ap (λ (fs : List (List ℕ)). getD fs n []) (failures-are β g a xs)
+
+  due-is : (n : ℕ) → Clear (failureRules (last β g a xs) n)
+      → failureDue (last β g a xs) n ≡ headerWords (headerOf β) ++ failureBody 3 (getD (failures β g xs) n [])
+  due-is n c =
+      ap₂ (λ (h : Header) (frame : List ℕ). headerWords h ++ failureBody 3 frame) (header-is β g a xs)
+      (frame-is n (leb-false _ _ (c .1 .0)))
+
+  pub records-given : (n : ℕ) (out : List ℕ) (r : Written) (after : List ℕ)
+      → Wrote (failureRules (last β g a xs) n) (failureDue (last β g a xs) n) out r after
+      → Wrote (recordRules β g n xs) (headerWords (headerOf β) ++ failureBody 3 (getD (failures β g xs) n [])) out r after
+  records-given n out r after w =
+      subst (λ (rules : List Rule). Wrote rules (headerWords (headerOf β) ++ failureBody 3 (getD (failures β g xs) n [])) out r after)
+      (record-rules β g a xs n)
+      (wrote-due (failureRules (last β g a xs) n) (failureDue (last β g a xs) n) _ out r after (due-is n) w)
+
+  pub list-given : (out : List ℕ) (r : Written) (after : List ℕ)
+      → Wrote (listRules (last β g a xs)) (listDue (last β g a xs)) out r after
+      → Wrote (duringPass β g xs ∷ []) (headerWords (headerOf β) ++ listAfter β g xs) out r after
+  list-given out r after w =
+      subst (λ (t : Bool). Wrote (rule 9 t ∷ []) (headerWords (headerOf β) ++ listAfter β g xs) out r after) (in-pass β g a xs)
+      (subst (λ (due : List ℕ). Wrote (listRules (last β g a xs)) due out r after)
+      (ap₂ (λ (h : Header) (l : List ℕ). headerWords h ++ l) (header-is β g a xs) (list-is β g a xs)) w)
