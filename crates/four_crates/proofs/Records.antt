@@ -1,16 +1,19 @@
--- The search for a failure record, one board at a time.
+-- The search for a failure record, one board at a time; records rise in k, 40 at most, and a pass that begins has none.
 -- Assumes nothing.
-use Prim.Native.Nat.{ℕ, zero, suc, _+_, _-_, _<_, _≤_}
+use Prim.Native.Nat.{ℕ, zero, suc, _+_, _-_, _/_, _%_, _<_, _≤_}
 use mathlib.Core.Path.{_≡_, refl, sym, ap, _∙_}
 use mathlib.Core.Bool.{Bool, true, false, cond}
 use mathlib.Core.List.{List, [], _∷_}
 use native.Mathlib.Omega.{arith}
 use native.Mathlib.Numerals.{add-one}
 use lib.Dec.{eqb, leb}
-use lib.ListN.{length, getD}
-use borrow.Author.Tests.{eq-eqb, ne-eqb, le-leb, lt-leb, leb-true, leb-false}
+use lib.ListN.{length, getD, replicate}
+use borrow.Author.Tests.{lt-ltb, eq-eqb, ne-eqb, le-leb, lt-leb, leb-true, leb-false}
+use Rattle.crate_pass.specs.Crate.{begunCrate}
+use Rattle.crate_pass.specs.declared.PassKind.{PassKind}
 use Rattle.crate_pass.specs.declared.Crate.{Crate}
-use Rattle.four_crates.specs.FourCrates.{failedAt, failure, recordsFrom, records, recordAt}
+use Rattle.crate_pass.proofs.Sound.{zeros}
+use Rattle.four_crates.specs.FourCrates.{crateOf, begunAll, failedAt, failure, recordsFrom, records, recordAt}
 use Rattle.four_crates.specs.declared.Failure.{Failure}
 
 module _ (cs : List Crate) where
@@ -61,7 +64,8 @@ coded : (cs : List Crate) (n k i : ℕ) → leb (length (recordsFrom cs n k)) i 
 coded cs zero k i = le-leb 0 i (omega arith)
 coded cs (suc n) k i = go (eqb (failedAt cs k) 0) refl i (λ j. coded cs n (suc k) j)
   where
-    go : (t : Bool) → eqb (failedAt cs k) 0 ≡ t → (i : ℕ) → ((j : ℕ) → leb (length (recordsFrom cs n (suc k))) j ≡ eqb (getD (recordsFrom cs n (suc k)) j (failure 0 0) .code) 0)
+    go : (t : Bool) → eqb (failedAt cs k) 0 ≡ t → (i : ℕ)
+        → ((j : ℕ) → leb (length (recordsFrom cs n (suc k))) j ≡ eqb (getD (recordsFrom cs n (suc k)) j (failure 0 0) .code) 0)
         → leb (length (cond t (recordsFrom cs n (suc k)) (failure k (failedAt cs k) ∷ recordsFrom cs n (suc k)))) i
         ≡ eqb (getD (cond t (recordsFrom cs n (suc k)) (failure k (failedAt cs k) ∷ recordsFrom cs n (suc k))) i (failure 0 0) .code) 0
     go true e i ih = ih i
@@ -78,7 +82,8 @@ most : (cs : List Crate) (n k : ℕ) → length (recordsFrom cs n k) ≤ n
 most cs zero k = omega arith
 most cs (suc n) k = go (eqb (failedAt cs k) 0) (most cs n (suc k))
   where
-    go : (t : Bool) → length (recordsFrom cs n (suc k)) ≤ n → length (cond t (recordsFrom cs n (suc k)) (failure k (failedAt cs k) ∷ recordsFrom cs n (suc k))) ≤ suc n
+    go : (t : Bool) → length (recordsFrom cs n (suc k)) ≤ n
+        → length (cond t (recordsFrom cs n (suc k)) (failure k (failedAt cs k) ∷ recordsFrom cs n (suc k))) ≤ suc n
     go true h = omega arith
     go false h = omega arith
 
@@ -99,10 +104,34 @@ rises : (cs : List Crate) (n k : ℕ) → Rises k (recordsFrom cs n k)
 rises cs zero k = tt
 rises cs (suc n) k = go (eqb (failedAt cs k) 0) (rises cs n (suc k))
   where
-    go : (t : Bool) → Rises (suc k) (recordsFrom cs n (suc k)) → Rises k (cond t (recordsFrom cs n (suc k)) (failure k (failedAt cs k) ∷ recordsFrom cs n (suc k)))
+    go : (t : Bool) → Rises (suc k) (recordsFrom cs n (suc k))
+        → Rises k (cond t (recordsFrom cs n (suc k)) (failure k (failedAt cs k) ∷ recordsFrom cs n (suc k)))
     go true h = rises-lower k (recordsFrom cs n (suc k)) h
     go false h = (omega arith, h)
 
 pub records-rise : (cs : List Crate) → Rises 0 (records cs)
 unfolding records
 records-rise cs = rises cs 40 0
+
+-- ---- records "are cleared when a pass begins"
+
+none-from : (cs : List Crate) → ((k : ℕ) → k < 40 → failedAt cs k ≡ 0) → (n k : ℕ) → k + n ≤ 40 → recordsFrom cs n k ≡ []
+none-from cs f zero k h = refl
+none-from cs f (suc n) k h = rw (eq-eqb _ _ (f k (omega arith))) (none-from cs f n (suc k) (omega arith))
+
+module _ (kind : PassKind) (words : List ℕ) (cs : List Crate) where
+  begun-failed : (c : ℕ) → c < 4 → crateOf (begunAll kind words cs) c .failed ≡ replicate 10 0
+  unfolding begunAll begunCrate
+  begun-failed zero h = refl
+  begun-failed (suc zero) h = refl
+  begun-failed (suc (suc zero)) h = refl
+  begun-failed (suc (suc (suc zero))) h = refl
+  begun-failed (suc (suc (suc (suc c)))) h = absurd (omega arith)
+
+  begun-none : (k : ℕ) → k < 40 → failedAt (begunAll kind words cs) k ≡ 0
+  unfolding failedAt
+  begun-none k h = rw (lt-ltb _ _ h) (ap (λ (l : List ℕ). getD l (k % 10) 0) (begun-failed (k / 10) (omega arith)) ∙ zeros 10 (k % 10))
+
+  pub records-begun : records (begunAll kind words cs) ≡ []
+  unfolding records
+  records-begun = none-from (begunAll kind words cs) begun-none 40 0 (omega arith)

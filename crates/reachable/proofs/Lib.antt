@@ -8,3 +8,5 @@ pub mod States
 pub mod ReadBack
 pub mod Kept
 pub mod RunNumbers
+pub mod PassStays
+pub mod ListStays
