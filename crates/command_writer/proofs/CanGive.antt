@@ -17,7 +17,7 @@ use Rattle.commands.specs.declared.RunLength.the-variants.{Endless, Counted}
 use Rattle.commands.specs.declared.Command.{Command}
 use Rattle.commands.specs.declared.Command.the-variants.{Read, Write, Start, Stop, Ping, CrateReset}
 use Rattle.command_writer.specs.Writing.{commandWords, writeRules}
-use Rattle.command_writer.specs.CanGive.{numbersGiven, oneOf, GivenFor, EachGiven, CanGive}
+use Rattle.command_writer.specs.CanGive.{numbersGiven, oneOf, GivenFor, CanGive}
 
 -- ---- no other
 

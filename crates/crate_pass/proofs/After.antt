@@ -3,12 +3,12 @@
 use Prim.Native.Nat.{ℕ, _+_, _<_, _≤_}
 use mathlib.Core.Path.{_≡_, refl}
 use mathlib.Core.Bool.{Bool, true, false, cond}
-use lib.Dec.{ltb, leb}
+use lib.Dec.{ltb}
 use borrow.Author.Tests.{ltb-true, ltb-false, leb-false}
 use Rattle.steps.specs.declared.Heard.{Heard}
 use Rattle.crate_pass.specs.declared.PassKind.{PassKind}
 use Rattle.crate_pass.specs.declared.Crate.{Crate}
-use Rattle.crate_pass.specs.Crate.{isDone, placed, advanced, stepped, noted, marked, Moved, passed, missed, moved, crateAfter}
+use Rattle.crate_pass.specs.Crate.{isDone, placed, advanced, stepped, noted, marked, passed, missed, moved, crateAfter}
 
 module _ (kind : PassKind) (w : ℕ) (k : Crate) (h : Heard) (P : Crate → Type 0) where
   -- P holds of the crate where nothing is outstanding, after a good reply, and after another or none

@@ -1,7 +1,7 @@
 -- A crate is sound at power-up, as a pass begins, and after a reply or a time-up (`sound-power-up`, `sound-begun`, `sound-after`).
 -- Assumes nothing.
 use Prim.Native.Nat.{ℕ, zero, suc, _+_, _-_, _<_, _≤_, _^_}
-use mathlib.Core.Path.{_≡_, refl, sym, ap, _∙_, subst}
+use mathlib.Core.Path.{_≡_, refl, sym, _∙_, subst}
 use mathlib.Core.Bool.{Bool, true, false, cond}
 use mathlib.Core.List.{List, [], _∷_}
 use mathlib.Core.Logic.{inl, inr}
@@ -13,7 +13,7 @@ use Rattle.steps.specs.declared.Heard.{Heard}
 use Rattle.crate_pass.specs.declared.PassKind.{PassKind}
 use Rattle.crate_pass.specs.declared.PassKind.the-variants.{Reprogramming, Ping}
 use Rattle.crate_pass.specs.declared.Crate.{Crate}
-use Rattle.crate_pass.specs.Crate.{serves, firstServed, nextBoard, firstCode, crateAtPowerUp, clearsList, kept, begunCrate}
+use Rattle.crate_pass.specs.Crate.{serves, firstServed, nextBoard, firstCode, crateAtPowerUp, kept, begunCrate}
 use Rattle.crate_pass.specs.Crate.{placed, advanced, callsAt, notedIn, noted, marked, crateAfter}
 use Rattle.crate_pass.specs.Sound.{IsCode, CallsKept, DnaKept, FailedIn, SoundCrate}
 use Rattle.crate_pass.proofs.After.{after-any}

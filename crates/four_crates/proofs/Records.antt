@@ -1,4 +1,4 @@
--- The search for a failure record, one board at a time; records rise in k, 40 at most, and a pass that begins has none.
+-- The search for a failure record, one board at a time; what a record says; records rise in k, 40 at most, and a pass that begins has none.
 -- Assumes nothing.
 use Prim.Native.Nat.{ℕ, zero, suc, _+_, _-_, _/_, _%_, _<_, _≤_}
 use mathlib.Core.Path.{_≡_, refl, sym, ap, _∙_}
@@ -8,7 +8,7 @@ use native.Mathlib.Omega.{arith}
 use native.Mathlib.Numerals.{add-one}
 use lib.Dec.{eqb, leb}
 use lib.ListN.{length, getD, replicate}
-use borrow.Author.Tests.{lt-ltb, eq-eqb, ne-eqb, le-leb, lt-leb, leb-true, leb-false}
+use borrow.Author.Tests.{lt-ltb, eq-eqb, ne-eqb, eqb-false, le-leb, lt-leb, leb-true, leb-false}
 use Rattle.crate_pass.specs.Crate.{begunCrate}
 use Rattle.crate_pass.specs.declared.PassKind.{PassKind}
 use Rattle.crate_pass.specs.declared.Crate.{Crate}
@@ -76,6 +76,29 @@ pub record-coded : (cs : List Crate) (n : ℕ) → leb (length (records cs)) n �
 unfolding records
 record-coded cs n = coded cs 40 0 n
 
+-- ---- a record says what failed on its board
+
+-- what holds of each board that failed, with its code, holds of each record
+any-from : (cs : List Crate) (P : Failure → Type 0) → ((k : ℕ) → k < 40 → (failedAt cs k ≡ 0 → ⊥) → P (failure k (failedAt cs k)))
+    → (n k : ℕ) → k + n ≤ 40 → (i : ℕ) → i < length (recordsFrom cs n k) → P (getD (recordsFrom cs n k) i (failure 0 0))
+any-from cs P f zero k h i l = absurd (let z : ⊥ = omega arith in z)
+any-from cs P f (suc n) k h i l = go (eqb (failedAt cs k) 0) refl (any-from cs P f n (suc k) (omega arith)) i l
+  where
+    go : (t : Bool) → eqb (failedAt cs k) 0 ≡ t
+        → ((j : ℕ) → j < length (recordsFrom cs n (suc k)) → P (getD (recordsFrom cs n (suc k)) j (failure 0 0)))
+        → (i : ℕ) → i < length (recordsFrom cs (suc n) k) → P (getD (recordsFrom cs (suc n) k) i (failure 0 0))
+    go true e more i l = rw e (more i (rw e at l))
+    go false e more zero l = rw e (f k (omega arith) (eqb-false _ _ e))
+    go false e more (suc i) l = rw e (more i (let m : suc i < suc (length (recordsFrom cs n (suc k))) = rw e at l in omega arith))
+
+all-boards : 0 + 40 ≤ 40
+all-boards = omega arith
+
+pub record-any : (cs : List Crate) (P : Failure → Type 0) → ((k : ℕ) → k < 40 → (failedAt cs k ≡ 0 → ⊥) → P (failure k (failedAt cs k)))
+    → (i : ℕ) → i < length (records cs) → P (recordAt cs i)
+unfolding records
+record-any cs P f i l = any-from cs P f 40 0 all-boards i l
+
 -- ---- "Records stand in rising k, 40 at most"
 
 most : (cs : List Crate) (n k : ℕ) → length (recordsFrom cs n k) ≤ n
@@ -134,4 +157,4 @@ module _ (kind : PassKind) (words : List ℕ) (cs : List Crate) where
 
   pub records-begun : records (begunAll kind words cs) ≡ []
   unfolding records
-  records-begun = none-from (begunAll kind words cs) begun-none 40 0 (omega arith)
+  records-begun = none-from (begunAll kind words cs) begun-none 40 0 all-boards

@@ -59,8 +59,7 @@ holds-power-up id firmware i f =
         run = run-up;
         length-block = refl;
         within = zeros-within;
-        four-active = refl;
-        active = λ c. rw (zeros 4 c) (omega arith);
+        active = record { four = refl; within = λ c. rw (zeros 4 c) (omega arith) };
         four = refl;
         number = λ c h. rw (crate-up c h) zero-le;
         crates = λ c h. subst (SoundCrate Reprogramming) (sym (crate-up c h)) sound-up;

@@ -6,6 +6,7 @@ pub mod OnRun
 pub mod OnPasses
 pub mod States
 pub mod ReadBack
+pub mod Reported
 pub mod Kept
 pub mod RunNumbers
 pub mod PassStays

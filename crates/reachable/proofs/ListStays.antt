@@ -2,7 +2,7 @@
 -- anything else while no ping is under way (`list-stays`).
 -- Assumes nothing.
 use Prim.Native.Nat.{ℕ, _^_, _<_}
-use mathlib.Core.Path.{_≡_, refl, sym, ap, ap₂, _∙_, subst}
+use mathlib.Core.Path.{_≡_, refl, sym, ap, _∙_, subst}
 use mathlib.Core.Bool.{Bool, true, false}
 use mathlib.Core.List.{List, [], _∷_, _++_}
 use mathlib.Core.Logic.{inl, inr}
@@ -17,14 +17,12 @@ use Rattle.commands.specs.declared.Command.the-variants.{Read, Write, Start, St
 use Rattle.blocks.specs.Blocks.{headerWords}
 use Rattle.ftu_list.specs.List.{entryWords, listHead, listBody}
 use Rattle.ftu_list.specs.declared.Entry.{Entry}
-use Rattle.ftu_list.specs.declared.FtuList.{FtuList}
 use Rattle.crate_pass.specs.Crate.{entriesFrom, entriesIn, isDone, begunCrate}
 use Rattle.crate_pass.specs.Sound.{IsCode}
-use Rattle.crate_pass.specs.declared.PassKind.{PassKind}
 use Rattle.crate_pass.specs.declared.PassKind.the-variants.{Reprogramming}
 use Rattle.crate_pass.specs.declared.Crate.{Crate}
 use Rattle.crate_pass.proofs.Entries.{entries-stay}
-use Rattle.four_crates.specs.FourCrates.{crateOf, inPass, begunAll, entriesOf}
+use Rattle.four_crates.specs.FourCrates.{begunAll, entriesOf}
 use Rattle.four_crates.proofs.Entries.{same-list}
 use Rattle.board.specs.State.{crateAt, activeWords, withRun, withCrates, freshBoard}
 use Rattle.board.specs.Commands.{boardAnswer, blockIn, written, pinged, afterCommand, boardAfter}
@@ -38,7 +36,7 @@ use Rattle.reachable.specs.Calls.{Call, command, clockStep, trigger, rep
 use Rattle.reachable.specs.Stays.{GivesList, listAtPowerUp, NoPingUnderWay}
 use Rattle.reachable.proofs.OneCall.{false≢true, Free, none-first}
 use Rattle.reachable.proofs.Holding.{Holds, holds-power-up}
-use Rattle.reachable.proofs.OnPasses.{heardOn, next, all-done, at-set, replied-done}
+use Rattle.reachable.proofs.OnPasses.{heardOn, next, at-set, replied-done}
 use Rattle.reachable.proofs.PassStays.{replied-same}
 use Rattle.reachable.proofs.States.{holds-kept, holds-all}
 
@@ -125,7 +123,7 @@ module _ (id firmware : ℕ) (i : id < 2 ^ 57) (f : firmware < 65536) where
     abbrev now : Board
     now = afterAll (freshBoard id firmware) before
 
-    body-stays : NoPingUnderWay now → noPing now xs ≡ true → listBody (listOf (afterAll now xs)) ≡ listBody (listOf now)
+    pub body-stays : NoPingUnderWay now → noPing now xs ≡ true → listBody (listOf (afterAll now xs)) ≡ listBody (listOf now)
     body-stays n free = ap listBody (same-calls now xs (holds-all (freshBoard id firmware) before (holds-power-up id firmware i f)) free n)
 
     -- `ftu_list` gives the same body wherever it is accepted

@@ -28,7 +28,7 @@ use Rattle.crate_pass.proofs.Sound.{sound-begun, sound-after}
 use Rattle.four_crates.specs.FourCrates.{noCrate, crateOf, inPass, begunAll, servedAnswer}
 use Rattle.board.specs.State.{crateAt, activeWords, withCrates}
 use Rattle.board.specs.Commands.{boardAnswer, blockIn, written, pinged, carriedOut, afterCommand}
-use Rattle.board.specs.SlowControl.{frameAt, replyAnswer, boardReplied}
+use Rattle.board.specs.SlowControl.{frameAt, boardReplied}
 use Rattle.board.specs.declared.Board.{Board}
 use Rattle.any_order.specs.Steps.{Event, heard}
 use Rattle.any_order.specs.AnyOrder.{wordOf, mostFrames, beginsPass}
@@ -36,6 +36,7 @@ use Rattle.any_order.proofs.Begun.{Begun, begun-after}
 use Rattle.any_order.proofs.OneCrate.{runs-start}
 use Rattle.board.proofs.Serving.{board-low, board-high}
 use Rattle.any_order.proofs.Served.{Runs, crateStep, step-runs}
+use Rattle.reachable.specs.Reachable.{SoundFlags}
 use Rattle.reachable.proofs.Accepted.{block-length, block-within}
 use Rattle.reachable.proofs.OneCall.{false≢true}
 use Rattle.reachable.proofs.Holding.{Holds, runs-number}
@@ -57,8 +58,7 @@ record Stored (γ : Board) : Type 0 where
   run : SoundRun (γ .run)
   length-block : length (γ .block) ≡ 436
   within : lowestAbove boundOf 0 (γ .block) ≡ 436
-  four-active : length (γ .active) ≡ 4
-  active : (c : ℕ) → getD (γ .active) c 0 ≤ 0x03FF
+  active : SoundFlags (γ .active)
   crates : (c : ℕ) → c < 4 → SoundCrate (γ .kind) (crateAt γ c)
 
 holds-begun : (β γ : Board) → Holds β → γ .identity ≡ β .identity → Begun γ → Stored γ → Holds γ
@@ -70,7 +70,6 @@ holds-begun β γ h e b s =
         run = s .run;
         length-block = s .length-block;
         within = s .within;
-        four-active = s .four-active;
         active = s .active;
         four = b .four;
         number = λ n m. runs-number (γ .kind) (wordOf γ n) (crateAt γ n) (runs-start γ b n m);
@@ -93,19 +92,21 @@ holds-write β w e h =
       run = sound-refreshed (β .run) (k .run);
       length-block = block-length β w e;
       within = block-within β w e;
-      four-active = k .four-active;
       active = k .active;
       crates = sound-all (β .kind) Reprogramming (activeWords (blockIn w)) (β .crates) (k .crates);
     })
 
--- the words of active flags are within their bounds, 0x1B0 to 0x1B3
-active-within : (block : List ℕ) → lowestAbove boundOf 0 block ≡ 436 → (c : ℕ) → getD (activeWords block) c 0 ≤ 0x03FF
+-- the words of active flags, 0x1B0 to 0x1B3, are within their bounds
+flags-within : (block : List ℕ) → lowestAbove boundOf 0 block ≡ 436 → SoundFlags (activeWords block)
 unfolding boundOf
-active-within block e zero = let l = lowest-before boundOf 0 block 0x1B0 (omega arith) in omega arith
-active-within block e (suc zero) = let l = lowest-before boundOf 0 block 0x1B1 (omega arith) in omega arith
-active-within block e (suc (suc zero)) = let l = lowest-before boundOf 0 block 0x1B2 (omega arith) in omega arith
-active-within block e (suc (suc (suc zero))) = let l = lowest-before boundOf 0 block 0x1B3 (omega arith) in omega arith
-active-within block e (suc (suc (suc (suc c)))) = omega arith
+flags-within block e = record { four = refl; within = λ c. let l = at c in omega arith }
+  where
+    at : (c : ℕ) → getD (activeWords block) c 0 ≤ 0x03FF
+    at zero = let l = lowest-before boundOf 0 block 0x1B0 (omega arith) in omega arith
+    at (suc zero) = let l = lowest-before boundOf 0 block 0x1B1 (omega arith) in omega arith
+    at (suc (suc zero)) = let l = lowest-before boundOf 0 block 0x1B2 (omega arith) in omega arith
+    at (suc (suc (suc zero))) = let l = lowest-before boundOf 0 block 0x1B3 (omega arith) in omega arith
+    at (suc (suc (suc (suc c)))) = omega arith
 
 pub holds-ping : (β : Board) (w : List ℕ) → boardAnswer β w ≡ given Ping → Holds β → Holds (pinged β)
 unfolding pinged
@@ -116,8 +117,7 @@ holds-ping β w e h =
       run = k .run;
       length-block = k .length-block;
       within = k .within;
-      four-active = refl;
-      active = active-within (β .block) (k .within);
+      active = flags-within (β .block) (k .within);
       crates = sound-all (β .kind) PassKind.Ping (activeWords (β .block)) (β .crates) (k .crates);
     })
 
@@ -174,7 +174,6 @@ holds-crate β c k h d r sound s =
         run = q .run;
         length-block = q .length-block;
         within = q .within;
-        four-active = q .four-active;
         active = q .active;
         four = length-set (β .crates) c k ∙ q .four;
         number = λ n m.

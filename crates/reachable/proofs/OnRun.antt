@@ -35,7 +35,6 @@ holds-run β r h s a =
         run = s;
         length-block = k .length-block;
         within = k .within;
-        four-active = k .four-active;
         active = k .active;
         four = k .four;
         number = k .number;

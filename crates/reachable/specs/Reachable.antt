@@ -2,6 +2,7 @@
 use Prim.Native.Nat.{ℕ, _<_, _≤_, _^_}
 use mathlib.Core.Path.{_≡_}
 use mathlib.Core.Bool.{false, _&&_}
+use mathlib.Core.List.{List}
 use lib.ListN.{length, getD}
 use Rattle.bounds.specs.Bounds.{boundOf, lowestAbove}
 use Rattle.configuration.specs.Configuration.{activeWord}
@@ -13,6 +14,11 @@ use Rattle.board.specs.State.{crateAt}
 use Rattle.board.specs.declared.Board.{Board}
 use Rattle.any_order.specs.AnyOrder.{mostFrames}
 
+-- 01, Blocks sent out: "the four active words as stored when the ping began", each then within its bound
+pub record SoundFlags (words : List ℕ) : Type 0 where
+  pub four : length words ≡ 4
+  pub within : (c : ℕ) → getD words c 0 ≤ 0x03FF
+
 pub record Reachable (β : Board) : Type 0 where
   -- 01, What we build: "a board ID at or above 2^57 gets 20, and no board"
   pub id : β .identity .«board_id» < 2 ^ 57
@@ -22,9 +28,7 @@ pub record Reachable (β : Board) : Type 0 where
   -- 01, The configuration: each stored word is within its bound
   pub length-block : length (β .block) ≡ 436
   pub within : lowestAbove boundOf 0 (β .block) ≡ 436
-  -- 01, Blocks sent out: "the four active words as stored when the ping began", each then within its bound
-  pub four-active : length (β .active) ≡ 4
-  pub active : (c : ℕ) → getD (β .active) c 0 ≤ 0x03FF
+  pub active : SoundFlags (β .active)
   -- 01, Slow control: four crates; "nine per active board", and thirty in a ping; places, tries, records and list entries of the last pass begun
   pub four : length (β .crates) ≡ 4
   pub number : (c : ℕ) → c < 4 → crateAt β c .sent ≤ mostFrames (β .kind) (activeWord (β .block) c)
