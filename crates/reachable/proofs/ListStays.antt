@@ -42,7 +42,7 @@ use Rattle.reachable.proofs.States.{holds-kept, holds-all}
 
 -- ---- power-up, and the begin of a ping
 
-zeros-at-power-up : (id firmware : ℕ) → listBody (listOf (freshBoard id firmware)) ≡ listAtPowerUp
+pub zeros-at-power-up : (id firmware : ℕ) → listBody (listOf (freshBoard id firmware)) ≡ listAtPowerUp
 unfolding freshBoard entriesOf entriesFrom listHead entryWords
 zeros-at-power-up id firmware = refl
 

@@ -10,11 +10,11 @@ pub record SoundRun (r : Run) : Type 0 where
   -- "the 48-bit timestamp", "the 48-bit on-time"
   pub timestamp : r .timestamp < 2 ^ 48
   pub on-time : r .«on_time» < 2 ^ 48
-  -- no trigger is accepted where the "trigger counter is 4,294,967,295"
+  -- no trigger is accepted where "trigger counter is 4,294,967,295"
   pub counter : r .«trigger_counter» ≤ 4294967295
   -- "A stop, or the Xth trigger, ends the run and zeroes the same three"; clock steps add to the timestamp alone until the next start
   pub zeroed : r .running ≡ Stopped → (r .«trigger_counter» ≡ 0) × (r .«on_time» ≡ 0)
   -- a start sets both to zero, and clock steps add to both "while running"
   pub together : isRunning r ≡ true → r .«on_time» ≡ r .timestamp
-  -- "the Xth trigger ends the run", so while one of X events is on, fewer were taken; X is not 0
+  -- while a run of X events is on, fewer than X were taken: "the Xth trigger, ends the run". So X is not 0
   pub fewer : (x : ℕ) → r .running ≡ Counted x → r .«trigger_counter» < x
