@@ -1,14 +1,18 @@
--- A crate's part of the FTU list: the entry of each board, an entry that is stored, and the list as a pass begins.
+-- A crate's part of the FTU list: the entry of each board, an entry that is stored, the list as a pass begins, and where a pass leaves it as it was.
 -- Assumes nothing.
 use Prim.Native.Nat.{ℕ, zero, suc, _<_}
 use mathlib.Core.Path.{_≡_, refl, ap}
 use mathlib.Core.List.{List, [], _∷_}
 use native.Mathlib.Omega.{arith}
 use lib.ListN.{length, getD, set, replicate}
+use borrow.Author.Tests.{ne-eqb}
 use Rattle.ftu_list.specs.declared.Entry.{Entry}
+use Rattle.steps.specs.declared.Heard.{Heard}
+use Rattle.crate_pass.specs.declared.PassKind.{PassKind}
 use Rattle.crate_pass.specs.declared.PassKind.the-variants.{Reprogramming, Ping}
 use Rattle.crate_pass.specs.declared.Crate.{Crate}
-use Rattle.crate_pass.specs.Crate.{silent, entriesFrom, entriesIn, begunCrate}
+use Rattle.crate_pass.specs.Crate.{silent, entriesFrom, entriesIn, begunCrate, placed, advanced, notedIn, noted, marked, crateAfter}
+use Rattle.crate_pass.proofs.After.{after-any}
 
 abbrev pub entry : ℕ → ℕ → ℕ → Entry
 entry d n e = record { dna = d; calls = n; «crc_errors» = e }
@@ -43,3 +47,16 @@ entries-cleared w k = refl
 pub entries-kept : (w : ℕ) (k : Crate) → entriesIn (begunCrate Reprogramming w k) ≡ entriesIn k
 unfolding begunCrate
 entries-kept w k = refl
+
+-- a reply or a time-up leaves the list as it was, where the frame was not a ping
+pub entries-stay : (kind : PassKind) (w : ℕ) (k : Crate) (h : Heard) → (k .code ≡ 4 → ⊥) → entriesIn (crateAfter kind w k h) ≡ entriesIn k
+unfolding noted notedIn marked advanced placed
+entries-stay kind w k h n =
+    after-any kind w k h (λ (q : Crate). entriesIn q ≡ entriesIn k)
+    (record {
+      done = refl;
+      next-step = λ d g l. rw (ne-eqb _ _ n);
+      next-board = λ d g l. rw (ne-eqb _ _ n);
+      again = λ d l. refl;
+      failed = λ d l. refl;
+    })

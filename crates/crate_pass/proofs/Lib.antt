@@ -1,5 +1,7 @@
 -- Laws that belong to no one function.
 pub mod Next
 pub mod Serving
+pub mod After
 pub mod Entries
+pub mod Sound
 pub mod Tables

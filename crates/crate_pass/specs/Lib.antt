@@ -1,3 +1,4 @@
 -- What the contracts cite.
 pub mod Crate
 pub mod NextPlace
+pub mod Sound

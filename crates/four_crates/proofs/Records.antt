@@ -1,16 +1,19 @@
--- The search for a failure record, one board at a time.
+-- The search for a failure record, one board at a time; what a record says; records rise in k, 40 at most, and a pass that begins has none.
 -- Assumes nothing.
-use Prim.Native.Nat.{ℕ, zero, suc, _+_, _-_, _<_, _≤_}
+use Prim.Native.Nat.{ℕ, zero, suc, _+_, _-_, _/_, _%_, _<_, _≤_}
 use mathlib.Core.Path.{_≡_, refl, sym, ap, _∙_}
 use mathlib.Core.Bool.{Bool, true, false, cond}
 use mathlib.Core.List.{List, [], _∷_}
 use native.Mathlib.Omega.{arith}
 use native.Mathlib.Numerals.{add-one}
 use lib.Dec.{eqb, leb}
-use lib.ListN.{length, getD}
-use borrow.Author.Tests.{eq-eqb, ne-eqb, le-leb, lt-leb, leb-true, leb-false}
+use lib.ListN.{length, getD, replicate}
+use borrow.Author.Tests.{lt-ltb, eq-eqb, ne-eqb, eqb-false, le-leb, lt-leb, leb-true, leb-false}
+use Rattle.crate_pass.specs.Crate.{begunCrate}
+use Rattle.crate_pass.specs.declared.PassKind.{PassKind}
 use Rattle.crate_pass.specs.declared.Crate.{Crate}
-use Rattle.four_crates.specs.FourCrates.{failedAt, failure, recordsFrom, records, recordAt}
+use Rattle.crate_pass.proofs.Sound.{zeros}
+use Rattle.four_crates.specs.FourCrates.{crateOf, begunAll, failedAt, failure, recordsFrom, records, recordAt}
 use Rattle.four_crates.specs.declared.Failure.{Failure}
 
 module _ (cs : List Crate) where
@@ -61,7 +64,8 @@ coded : (cs : List Crate) (n k i : ℕ) → leb (length (recordsFrom cs n k)) i 
 coded cs zero k i = le-leb 0 i (omega arith)
 coded cs (suc n) k i = go (eqb (failedAt cs k) 0) refl i (λ j. coded cs n (suc k) j)
   where
-    go : (t : Bool) → eqb (failedAt cs k) 0 ≡ t → (i : ℕ) → ((j : ℕ) → leb (length (recordsFrom cs n (suc k))) j ≡ eqb (getD (recordsFrom cs n (suc k)) j (failure 0 0) .code) 0)
+    go : (t : Bool) → eqb (failedAt cs k) 0 ≡ t → (i : ℕ)
+        → ((j : ℕ) → leb (length (recordsFrom cs n (suc k))) j ≡ eqb (getD (recordsFrom cs n (suc k)) j (failure 0 0) .code) 0)
         → leb (length (cond t (recordsFrom cs n (suc k)) (failure k (failedAt cs k) ∷ recordsFrom cs n (suc k)))) i
         ≡ eqb (getD (cond t (recordsFrom cs n (suc k)) (failure k (failedAt cs k) ∷ recordsFrom cs n (suc k))) i (failure 0 0) .code) 0
     go true e i ih = ih i
@@ -72,13 +76,37 @@ pub record-coded : (cs : List Crate) (n : ℕ) → leb (length (records cs)) n �
 unfolding records
 record-coded cs n = coded cs 40 0 n
 
+-- ---- a record says what failed on its board
+
+-- what holds of each board that failed, with its code, holds of each record
+any-from : (cs : List Crate) (P : Failure → Type 0) → ((k : ℕ) → k < 40 → (failedAt cs k ≡ 0 → ⊥) → P (failure k (failedAt cs k)))
+    → (n k : ℕ) → k + n ≤ 40 → (i : ℕ) → i < length (recordsFrom cs n k) → P (getD (recordsFrom cs n k) i (failure 0 0))
+any-from cs P f zero k h i l = absurd (let z : ⊥ = omega arith in z)
+any-from cs P f (suc n) k h i l = go (eqb (failedAt cs k) 0) refl (any-from cs P f n (suc k) (omega arith)) i l
+  where
+    go : (t : Bool) → eqb (failedAt cs k) 0 ≡ t
+        → ((j : ℕ) → j < length (recordsFrom cs n (suc k)) → P (getD (recordsFrom cs n (suc k)) j (failure 0 0)))
+        → (i : ℕ) → i < length (recordsFrom cs (suc n) k) → P (getD (recordsFrom cs (suc n) k) i (failure 0 0))
+    go true e more i l = rw e (more i (rw e at l))
+    go false e more zero l = rw e (f k (omega arith) (eqb-false _ _ e))
+    go false e more (suc i) l = rw e (more i (let m : suc i < suc (length (recordsFrom cs n (suc k))) = rw e at l in omega arith))
+
+all-boards : 0 + 40 ≤ 40
+all-boards = omega arith
+
+pub record-any : (cs : List Crate) (P : Failure → Type 0) → ((k : ℕ) → k < 40 → (failedAt cs k ≡ 0 → ⊥) → P (failure k (failedAt cs k)))
+    → (i : ℕ) → i < length (records cs) → P (recordAt cs i)
+unfolding records
+record-any cs P f i l = any-from cs P f 40 0 all-boards i l
+
 -- ---- "Records stand in rising k, 40 at most"
 
 most : (cs : List Crate) (n k : ℕ) → length (recordsFrom cs n k) ≤ n
 most cs zero k = omega arith
 most cs (suc n) k = go (eqb (failedAt cs k) 0) (most cs n (suc k))
   where
-    go : (t : Bool) → length (recordsFrom cs n (suc k)) ≤ n → length (cond t (recordsFrom cs n (suc k)) (failure k (failedAt cs k) ∷ recordsFrom cs n (suc k))) ≤ suc n
+    go : (t : Bool) → length (recordsFrom cs n (suc k)) ≤ n
+        → length (cond t (recordsFrom cs n (suc k)) (failure k (failedAt cs k) ∷ recordsFrom cs n (suc k))) ≤ suc n
     go true h = omega arith
     go false h = omega arith
 
@@ -99,10 +127,34 @@ rises : (cs : List Crate) (n k : ℕ) → Rises k (recordsFrom cs n k)
 rises cs zero k = tt
 rises cs (suc n) k = go (eqb (failedAt cs k) 0) (rises cs n (suc k))
   where
-    go : (t : Bool) → Rises (suc k) (recordsFrom cs n (suc k)) → Rises k (cond t (recordsFrom cs n (suc k)) (failure k (failedAt cs k) ∷ recordsFrom cs n (suc k)))
+    go : (t : Bool) → Rises (suc k) (recordsFrom cs n (suc k))
+        → Rises k (cond t (recordsFrom cs n (suc k)) (failure k (failedAt cs k) ∷ recordsFrom cs n (suc k)))
     go true h = rises-lower k (recordsFrom cs n (suc k)) h
     go false h = (omega arith, h)
 
 pub records-rise : (cs : List Crate) → Rises 0 (records cs)
 unfolding records
 records-rise cs = rises cs 40 0
+
+-- ---- records "are cleared when a pass begins"
+
+none-from : (cs : List Crate) → ((k : ℕ) → k < 40 → failedAt cs k ≡ 0) → (n k : ℕ) → k + n ≤ 40 → recordsFrom cs n k ≡ []
+none-from cs f zero k h = refl
+none-from cs f (suc n) k h = rw (eq-eqb _ _ (f k (omega arith))) (none-from cs f n (suc k) (omega arith))
+
+module _ (kind : PassKind) (words : List ℕ) (cs : List Crate) where
+  begun-failed : (c : ℕ) → c < 4 → crateOf (begunAll kind words cs) c .failed ≡ replicate 10 0
+  unfolding begunAll begunCrate
+  begun-failed zero h = refl
+  begun-failed (suc zero) h = refl
+  begun-failed (suc (suc zero)) h = refl
+  begun-failed (suc (suc (suc zero))) h = refl
+  begun-failed (suc (suc (suc (suc c)))) h = absurd (omega arith)
+
+  begun-none : (k : ℕ) → k < 40 → failedAt (begunAll kind words cs) k ≡ 0
+  unfolding failedAt
+  begun-none k h = rw (lt-ltb _ _ h) (ap (λ (l : List ℕ). getD l (k % 10) 0) (begun-failed (k / 10) (omega arith)) ∙ zeros 10 (k % 10))
+
+  pub records-begun : records (begunAll kind words cs) ≡ []
+  unfolding records
+  records-begun = none-from (begunAll kind words cs) begun-none 40 0 all-boards

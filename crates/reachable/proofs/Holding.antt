@@ -1,14 +1,18 @@
 -- What every call keeps (`Holds`), and that power-up gives it.
 -- Assumes nothing.
 use Prim.Native.Nat.{ℕ, zero, suc, _^_, _<_, _≤_, zero-le}
-use mathlib.Core.Path.{_≡_, refl, sym, ap, _∙_}
+use mathlib.Core.Path.{_≡_, refl, sym, ap, _∙_, subst}
 use mathlib.Core.Bool.{false}
 use native.Mathlib.Omega.{arith}
 use lib.ListN.{length, getD, replicate}
 use Rattle.bounds.specs.Bounds.{boundOf, lowestAbove}
 use Rattle.crate_pass.specs.Crate.{isDone, crateAtPowerUp}
+use Rattle.crate_pass.specs.Sound.{SoundCrate}
 use Rattle.crate_pass.specs.declared.PassKind.{PassKind}
+use Rattle.crate_pass.specs.declared.PassKind.the-variants.{Reprogramming}
 use Rattle.crate_pass.specs.declared.Crate.{Crate}
+use Rattle.crate_pass.proofs.Sound.{zeros, sound-power-up as sound-up}
+use Rattle.run.proofs.Sound.{sound-power-up as run-up}
 use Rattle.four_crates.specs.FourCrates.{noCrate, inPass}
 use Rattle.board.specs.State.{crateAt, freshBoard}
 use Rattle.board.specs.declared.Board.{Board}
@@ -52,13 +56,13 @@ holds-power-up id firmware i f =
       reaches = record {
         id = omega arith;
         firmware = omega arith;
-        timestamp = omega arith;
-        on-time = omega arith;
-        counter = omega arith;
+        run = run-up;
         length-block = refl;
         within = zeros-within;
+        active = record { four = refl; within = λ c. rw (zeros 4 c) (omega arith) };
         four = refl;
         number = λ c h. rw (crate-up c h) zero-le;
+        crates = λ c h. subst (SoundCrate Reprogramming) (sym (crate-up c h)) sound-up;
         apart = refl;
       };
       walks = λ c h d. false≢true (sym d ∙ ap isDone (crate-up c h));

@@ -6,5 +6,8 @@ pub mod OnRun
 pub mod OnPasses
 pub mod States
 pub mod ReadBack
+pub mod Reported
 pub mod Kept
 pub mod RunNumbers
+pub mod PassStays
+pub mod ListStays

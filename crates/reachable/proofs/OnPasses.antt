@@ -1,26 +1,34 @@
 -- Writes and pings begin a pass, replies and time-ups move one crate in it, and all keep what holds.
 -- Assumes nothing.
-use Prim.Native.Nat.{ℕ, zero, suc, _<_, _≤_}
+use Prim.Native.Nat.{ℕ, zero, suc, _<_, _≤_, _^_}
 use mathlib.Core.Path.{_≡_, refl, sym, _∙_, subst}
 use mathlib.Core.Bool.{Bool, true, false, not, _&&_, _||_}
 use mathlib.Core.List.{List}
 use native.Mathlib.Omega.{arith}
 use lib.Dec.{ltb, eqb}
-use lib.ListN.{length, set, length-set}
+use lib.ListN.{length, getD, set, length-set}
 use lib.Seq.{getD-set-same, getD-set-other}
 use borrow.Author.Tests.{ltb-true, ltb-false, le-ltb, eqb-true, eqb-false}
 use Rattle.refusals.specs.Tables.{Answer, given}
 use Rattle.bounds.specs.Bounds.{boundOf, lowestAbove}
+use Rattle.bounds.proofs.Lowest.{lowest-before}
 use Rattle.commands.specs.declared.Command.{Command}
 use Rattle.commands.specs.declared.Command.the-variants.{Write, Ping}
 use Rattle.steps.specs.declared.Heard.{Heard}
+use Rattle.steps.proofs.PingReply.{ping-below}
 use Rattle.run.specs.Run.{isRunning}
+use Rattle.run.specs.Sound.{SoundRun}
+use Rattle.run.proofs.Sound.{sound-refreshed}
 use Rattle.crate_pass.specs.Crate.{isDone, crateAfter}
+use Rattle.crate_pass.specs.Sound.{SoundCrate}
+use Rattle.crate_pass.specs.declared.PassKind.{PassKind}
+use Rattle.crate_pass.specs.declared.PassKind.the-variants.{Reprogramming}
 use Rattle.crate_pass.specs.declared.Crate.{Crate}
-use Rattle.four_crates.specs.FourCrates.{noCrate, crateOf, inPass, servedAnswer}
-use Rattle.board.specs.State.{crateAt, withCrates}
+use Rattle.crate_pass.proofs.Sound.{sound-begun, sound-after}
+use Rattle.four_crates.specs.FourCrates.{noCrate, crateOf, inPass, begunAll, servedAnswer}
+use Rattle.board.specs.State.{crateAt, activeWords, withCrates}
 use Rattle.board.specs.Commands.{boardAnswer, blockIn, written, pinged, carriedOut, afterCommand}
-use Rattle.board.specs.SlowControl.{frameAt, replyAnswer, boardReplied}
+use Rattle.board.specs.SlowControl.{frameAt, boardReplied}
 use Rattle.board.specs.declared.Board.{Board}
 use Rattle.any_order.specs.Steps.{Event, heard}
 use Rattle.any_order.specs.AnyOrder.{Begin, write, ping, Accepted, startOf, wordOf, mostFrames}
@@ -28,26 +36,44 @@ use Rattle.any_order.proofs.Begun.{Begun, begun-after}
 use Rattle.board.proofs.Serving.{board-low, board-high}
 use Rattle.any_order.proofs.Served.{crateStep}
 use Rattle.any_order.proofs.Runs.{Runs, step-runs}
+use Rattle.reachable.specs.Reachable.{SoundFlags}
 use Rattle.reachable.proofs.Accepted.{block-length, block-within}
 use Rattle.reachable.proofs.OneCall.{false≢true}
 use Rattle.reachable.proofs.Holding.{Holds, runs-number}
-use Rattle.reachable.proofs.OnRun.{Counters, counters-of}
 
 -- ---- a pass that has just begun
 
-holds-begun : (β γ : Board) → Holds β → γ .identity ≡ β .identity → Begun γ → Counters (γ .run) → length (γ .block) ≡ 436 → lowestAbove boundOf 0 (γ .block) ≡ 436 → Holds γ
-holds-begun β γ h e b c l w =
+-- each crate is sound
+sound-all : (last kind : PassKind) (words : List ℕ) (cs : List Crate) → ((c : ℕ) → c < 4 → SoundCrate last (crateOf cs c))
+    → (c : ℕ) → c < 4 → SoundCrate kind (crateOf (begunAll kind words cs) c)
+unfolding begunAll
+sound-all last kind words cs s zero h = sound-begun last kind (getD words 0 0) (crateOf cs 0) (s 0 (omega arith))
+sound-all last kind words cs s (suc zero) h = sound-begun last kind (getD words 1 0) (crateOf cs 1) (s 1 (omega arith))
+sound-all last kind words cs s (suc (suc zero)) h = sound-begun last kind (getD words 2 0) (crateOf cs 2) (s 2 (omega arith))
+sound-all last kind words cs s (suc (suc (suc zero))) h = sound-begun last kind (getD words 3 0) (crateOf cs 3) (s 3 (omega arith))
+sound-all last kind words cs s (suc (suc (suc (suc c)))) h = absurd (omega arith)
+
+-- what a write or a ping stores holds, with what a pass that has begun has
+record Stored (γ : Board) : Type 0 where
+  run : SoundRun (γ .run)
+  length-block : length (γ .block) ≡ 436
+  within : lowestAbove boundOf 0 (γ .block) ≡ 436
+  active : SoundFlags (γ .active)
+  crates : (c : ℕ) → c < 4 → SoundCrate (γ .kind) (crateAt γ c)
+
+holds-begun : (β γ : Board) → Holds β → γ .identity ≡ β .identity → Begun γ → Stored γ → Holds γ
+holds-begun β γ h e b s =
     record {
       reaches = record {
         id = rw e (h .reaches .id);
         firmware = rw e (h .reaches .firmware);
-        timestamp = c .timestamp;
-        on-time = c .on-time;
-        counter = c .counter;
-        length-block = l;
-        within = w;
+        run = s .run;
+        length-block = s .length-block;
+        within = s .within;
+        active = s .active;
         four = b .four;
         number = λ n m. runs-number (γ .kind) (wordOf (γ .block) n) (crateAt γ n) (b .runs n m);
+        crates = s .crates;
         apart = rw (b .still);
       };
       walks = λ n m d. b .runs n m;
@@ -63,14 +89,40 @@ begun-ping β w e = subst (λ (a : Answer Command). Begun (afterCommand β (bloc
 pub holds-write : (β : Board) (w : List ℕ) → boardAnswer β w ≡ given Write → Holds β → Holds (written β (blockIn w))
 unfolding written
 holds-write β w e h =
-    let c = counters-of β h in
+    let k = h .reaches in
     holds-begun β (written β (blockIn w)) h refl (begun-write β w e)
-    (record { timestamp = c .timestamp; on-time = c .on-time; counter = c .counter }) (block-length β w e) (block-within β w e)
+    (record {
+      run = sound-refreshed (β .run) (k .run);
+      length-block = block-length β w e;
+      within = block-within β w e;
+      active = k .active;
+      crates = sound-all (β .kind) Reprogramming (activeWords (blockIn w)) (β .crates) (k .crates);
+    })
+
+-- the words of active flags, 0x1B0 to 0x1B3, are within their bounds
+flags-within : (block : List ℕ) → lowestAbove boundOf 0 block ≡ 436 → SoundFlags (activeWords block)
+unfolding boundOf
+flags-within block e = record { four = refl; within = λ c. let l = at c in omega arith }
+  where
+    at : (c : ℕ) → getD (activeWords block) c 0 ≤ 0x03FF
+    at zero = let l = lowest-before boundOf 0 block 0x1B0 (omega arith) in omega arith
+    at (suc zero) = let l = lowest-before boundOf 0 block 0x1B1 (omega arith) in omega arith
+    at (suc (suc zero)) = let l = lowest-before boundOf 0 block 0x1B2 (omega arith) in omega arith
+    at (suc (suc (suc zero))) = let l = lowest-before boundOf 0 block 0x1B3 (omega arith) in omega arith
+    at (suc (suc (suc (suc c)))) = omega arith
 
 pub holds-ping : (β : Board) (w : List ℕ) → boardAnswer β w ≡ given Ping → Holds β → Holds (pinged β)
 unfolding pinged
 holds-ping β w e h =
-    holds-begun β (pinged β) h refl (begun-ping β w e) (counters-of β h) (h .reaches .length-block) (h .reaches .within)
+    let k = h .reaches in
+    holds-begun β (pinged β) h refl (begun-ping β w e)
+    (record {
+      run = k .run;
+      length-block = k .length-block;
+      within = k .within;
+      active = flags-within (β .block) (k .within);
+      crates = sound-all (β .kind) PassKind.Ping (activeWords (β .block)) (β .crates) (k .crates);
+    })
 
 -- ---- replies and time-ups
 
@@ -82,11 +134,13 @@ all-true true false d₂ d₃ e = false≢true (sym e)
 all-true false d₁ d₂ d₃ e = false≢true (sym e)
 
 -- "when all are done the board is idle"
-all-done : (cs : List Crate) → inPass cs ≡ false → (c : ℕ) → c < 4 → isDone (crateOf cs c) ≡ true
+pub all-done : (cs : List Crate) → inPass cs ≡ false → (c : ℕ) → c < 4 → isDone (crateOf cs c) ≡ true
 unfolding inPass
 all-done cs e c h = go c h (all-true (isDone (crateOf cs 0)) (isDone (crateOf cs 1)) (isDone (crateOf cs 2)) (isDone (crateOf cs 3)) e)
   where
-    go : (c : ℕ) → c < 4 → (isDone (crateOf cs 0) ≡ true) × (isDone (crateOf cs 1) ≡ true) × (isDone (crateOf cs 2) ≡ true) × (isDone (crateOf cs 3) ≡ true) → isDone (crateOf cs c) ≡ true
+    go : (c : ℕ) → c < 4
+        → (isDone (crateOf cs 0) ≡ true) × (isDone (crateOf cs 1) ≡ true) × (isDone (crateOf cs 2) ≡ true) × (isDone (crateOf cs 3) ≡ true)
+        → isDone (crateOf cs c) ≡ true
     go zero h t = t .0
     go (suc zero) h t = t .1
     go (suc (suc zero)) h t = t .2
@@ -99,7 +153,8 @@ pass-apart true cs c h d a = false≢true (sym d ∙ all-done cs a c h)
 pass-apart false cs c h d a = refl
 
 -- what holds of the crate k, and of the others as they were, holds of the crates with k for crate c
-at-set : (cs : List Crate) (c : ℕ) (k : Crate) → c < length cs → (P : ℕ → Crate → Type 0) → P c k → (n : ℕ) → P n (crateOf cs n) → P n (crateOf (set cs c k) n)
+pub at-set : (cs : List Crate) (c : ℕ) (k : Crate) → c < length cs
+    → (P : ℕ → Crate → Type 0) → P c k → (n : ℕ) → P n (crateOf cs n) → P n (crateOf (set cs c k) n)
 at-set cs c k l P new n old = go (eqb c n) refl
   where
     go : (t : Bool) → eqb c n ≡ t → P n (crateOf (set cs c k) n)
@@ -109,41 +164,49 @@ at-set cs c k l P new n old = go (eqb c n) refl
     go false e = subst (P n) (sym (getD-set-other cs c n k noCrate (λ q. eqb-false c n e (sym q)))) old
 
 -- the crate c moved on in its pass
-holds-crate : (β : Board) (c : ℕ) (k : Crate) → c < 4 → isDone (crateAt β c) ≡ false → Runs (β .kind) (wordOf (β .block) c) k → Holds β → Holds (withCrates β (set (β .crates) c k))
+holds-crate : (β : Board) (c : ℕ) (k : Crate) → c < 4 → isDone (crateAt β c) ≡ false → Runs (β .kind) (wordOf (β .block) c) k → SoundCrate (β .kind) k
+    → Holds β → Holds (withCrates β (set (β .crates) c k))
 unfolding withCrates
-holds-crate β c k h d r s =
+holds-crate β c k h d r sound s =
     let q = s .reaches in
     let l : c < length (β .crates) = let f = q .four in omega arith in
     record {
       reaches = record {
         id = q .id;
         firmware = q .firmware;
-        timestamp = q .timestamp;
-        on-time = q .on-time;
-        counter = q .counter;
+        run = q .run;
         length-block = q .length-block;
         within = q .within;
+        active = q .active;
         four = length-set (β .crates) c k ∙ q .four;
-        number = λ n m. at-set (β .crates) c k l (λ i j. j .sent ≤ mostFrames (β .kind) (wordOf (β .block) i)) (runs-number (β .kind) (wordOf (β .block) c) k r) n (q .number n m);
+        number = λ n m.
+            at-set (β .crates) c k l (λ i j. j .sent ≤ mostFrames (β .kind) (wordOf (β .block) i)) (runs-number (β .kind) (wordOf (β .block) c) k r) n (q .number n m);
+        crates = λ n m. at-set (β .crates) c k l (λ i j. SoundCrate (β .kind) j) sound n (q .crates n m);
         apart = rw (pass-apart (isRunning (β .run)) (β .crates) c h d (q .apart));
       };
       walks = λ n m. at-set (β .crates) c k l (λ i j. isDone j ≡ false → Runs (β .kind) (wordOf (β .block) i) j) (λ e. r) n (s .walks n m);
     }
 
-replied-done : (β : Board) (c : ℕ) (h : Heard) → c < 4 → isDone (crateAt β c) ≡ true → boardReplied β c h ≡ β
+pub replied-done : (β : Board) (c : ℕ) (h : Heard) → c < 4 → isDone (crateAt β c) ≡ true → boardReplied β c h ≡ β
 unfolding boardReplied servedAnswer
 replied-done β c h l d = let m : c ≤ 3 = omega arith in rw (le-ltb _ _ m, d)
 
 -- the crate after what is heard on it
-abbrev heardOn : Board → ℕ → Event → Heard
+abbrev pub heardOn : Board → ℕ → Event → Heard
 heardOn β c e = heard (frameAt β c) e
 
-abbrev next : Board → ℕ → Event → Crate
+abbrev pub next : Board → ℕ → Event → Crate
 next β c e = crateAfter (β .kind) (wordOf (β .block) c) (crateAt β c) (heardOn β c e)
 
 runs-next : (β : Board) (c : ℕ) (e : Event) → Runs (β .kind) (wordOf (β .block) c) (crateAt β c) → Runs (β .kind) (wordOf (β .block) c) (next β c e)
 unfolding crateStep frameAt
 runs-next β c e r = step-runs (β .kind) (β .block) c (crateAt β c) e r
+
+-- a good reply to a ping carries a DNA that is kept
+event-below : (β : Board) (c : ℕ) (e : Event) → crateAt β c .code ≡ 4 → heardOn β c e .good ≡ true → heardOn β c e .dna < 2 ^ 57
+unfolding frameAt
+event-below β c (Event.reply bytes) p g = ping-below (β .block) c (crateAt β c .board) (crateAt β c .code) p bytes g
+event-below β c Event.timeUp p g = false≢true g
 
 pub holds-event : (β : Board) (c : ℕ) (e : Event) → Holds β → Holds (boardReplied β c (heardOn β c e))
 holds-event β c e s = go (ltb c 4) refl (isDone (crateAt β c)) refl
@@ -153,4 +216,5 @@ holds-event β c e s = go (ltb c 4) refl (isDone (crateAt β c)) refl
     go true p true q = rw (replied-done β c (heardOn β c e) (ltb-true _ _ p) q) s
     go true p false q =
         let l : c < 4 = ltb-true _ _ p in
-        subst Holds (sym (board-low β c (heardOn β c e) (omega arith))) (holds-crate β c (next β c e) l q (runs-next β c e (s .walks c l q)) s)
+        let sound = sound-after (β .kind) (wordOf (β .block) c) (crateAt β c) (heardOn β c e) (event-below β c e) (s .reaches .crates c l) in
+        subst Holds (sym (board-low β c (heardOn β c e) (omega arith))) (holds-crate β c (next β c e) l q (runs-next β c e (s .walks c l q)) sound s)

@@ -29,7 +29,7 @@ use Rattle.reachable.specs.Reachable.{Reachable}
 
 module _ (β : Board) (h : Reachable β) where
   sound : Sound (headerOf β)
-  sound = record { id = h .id; firmware = h .firmware; counter = h .counter; time = h .timestamp }
+  sound = record { id = h .id; firmware = h .firmware; counter = let k = h .run .counter in omega arith; time = h .run .timestamp }
 
   -- ---- blocks
 
@@ -68,7 +68,7 @@ module _ (β : Board) (h : Reachable β) where
         let size = wrote-length (triggerRules (β .run) f) (packetBytes (triggerNumber (β .run)) f) out n after w in
         let range = within f (inRange f) refl (clear .0) in
         let room = eqb-false (β .run .«trigger_counter») 4294967295 (clear .1 .1 .0) in
-        let low : triggerNumber (β .run) < 2 ^ 32 = let k = h .counter in omega arith in (
+        let low : triggerNumber (β .run) < 2 ^ 32 = let k = h .run .counter in omega arith in (
           omega arith,
           ap packetAnswer (wrote-front (triggerRules (β .run) f) (packetBytes (triggerNumber (β .run)) f) out n after w)
               ∙ read-written (triggerNumber (β .run)) f low (range .0) (range .1),

@@ -44,6 +44,28 @@ isWrite (given Ping) = false
 isWrite (given (CrateReset c)) = false
 isWrite (refused n p) = false
 
+abbrev pub isPing : Answer Command → Bool
+isPing (given (Read kind)) = false
+isPing (given Write) = false
+isPing (given (Start run)) = false
+isPing (given Stop) = false
+isPing (given Ping) = true
+isPing (given (CrateReset c)) = false
+isPing (refused n p) = false
+
+-- the commands that begin a pass
+abbrev pub beginsPass : Command → Bool
+beginsPass (Read kind) = false
+beginsPass Write = true
+beginsPass (Start run) = false
+beginsPass Stop = false
+beginsPass Ping = true
+beginsPass (CrateReset c) = false
+
+abbrev pub isWriteOrPing : Answer Command → Bool
+isWriteOrPing (given c) = beginsPass c
+isWriteOrPing (refused n p) = false
+
 abbrev pub isStartOrStop : Answer Command → Bool
 isStartOrStop (given (Read kind)) = false
 isStartOrStop (given Write) = false
@@ -64,6 +86,12 @@ noneGets such β (timeUp c ∷ xs) = noneGets such (afterCall β (timeUp c)) xs
 
 abbrev pub noWrite : Board → List Call → Bool
 noWrite β xs = noneGets isWrite β xs
+
+abbrev pub noPing : Board → List Call → Bool
+noPing β xs = noneGets isPing β xs
+
+abbrev pub noWriteOrPing : Board → List Call → Bool
+noWriteOrPing β xs = noneGets isWriteOrPing β xs
 
 abbrev pub noStartOrStop : Board → List Call → Bool
 noStartOrStop β xs = noneGets isStartOrStop β xs

@@ -2,3 +2,4 @@
 pub mod Calls
 pub mod Reachable
 pub mod Numbering
+pub mod Stays

@@ -1,0 +1,195 @@
+-- A crate is sound at power-up, as a pass begins, and after a reply or a time-up (`sound-power-up`, `sound-begun`, `sound-after`).
+-- Assumes nothing.
+use Prim.Native.Nat.{ℕ, zero, suc, _+_, _-_, _<_, _≤_, _^_}
+use mathlib.Core.Path.{_≡_, refl, sym, _∙_, subst}
+use mathlib.Core.Bool.{Bool, true, false, cond}
+use mathlib.Core.List.{List, [], _∷_}
+use mathlib.Core.Logic.{inl, inr}
+use native.Mathlib.Omega.{arith}
+use lib.Dec.{ltb, eqb}
+use lib.ListN.{length, getD, set, replicate, length-set}
+use borrow.Author.Tests.{ltb-true, eqb-true}
+use Rattle.steps.specs.declared.Heard.{Heard}
+use Rattle.crate_pass.specs.declared.PassKind.{PassKind}
+use Rattle.crate_pass.specs.declared.PassKind.the-variants.{Reprogramming, Ping}
+use Rattle.crate_pass.specs.declared.Crate.{Crate}
+use Rattle.crate_pass.specs.Crate.{serves, firstServed, nextBoard, firstCode, crateAtPowerUp, kept, begunCrate}
+use Rattle.crate_pass.specs.Crate.{placed, advanced, callsAt, notedIn, noted, marked, crateAfter}
+use Rattle.crate_pass.specs.Sound.{IsCode, CallsKept, DnaKept, FailedIn, SoundCrate}
+use Rattle.crate_pass.proofs.After.{after-any}
+
+-- ---- of lists of numbers, a number for each board
+
+pub zeros : (n b : ℕ) → getD {A = ℕ} (replicate n 0) b 0 ≡ 0
+zeros zero b = refl
+zeros (suc n) zero = refl
+zeros (suc n) (suc b) = zeros n b
+
+-- what holds of each number and of x holds of each with x stored among them
+each-set : (P : ℕ → Type 0) (l : List ℕ) (i x : ℕ) → P x → ((b : ℕ) → P (getD l b 0)) → (b : ℕ) → P (getD (set l i x) b 0)
+each-set P [] i x p f b = f b
+each-set P (y ∷ l) zero x p f zero = p
+each-set P (y ∷ l) zero x p f (suc b) = f (suc b)
+each-set P (y ∷ l) (suc i) x p f zero = f zero
+each-set P (y ∷ l) (suc i) x p f (suc b) = each-set P l i x p (λ c. f (suc c)) b
+
+-- and where they are cleared
+length-kept : (kind : PassKind) (l : List ℕ) → length l ≡ 10 → length (kept kind l) ≡ 10
+length-kept Reprogramming l e = e
+length-kept Ping l e = refl
+
+each-kept : (P : ℕ → Type 0) (kind : PassKind) (l : List ℕ) → P 0 → ((b : ℕ) → P (getD l b 0)) → (b : ℕ) → P (getD (kept kind l) b 0)
+each-kept P Reprogramming l p f b = f b
+each-kept P Ping l p f b = subst P (sym (zeros 10 b)) p
+
+-- ---- places
+
+first-most : (kind : PassKind) (w n b : ℕ) → n ≤ 10 - b → firstServed kind w n b ≤ 10
+unfolding firstServed
+first-most kind w zero b h = omega arith
+first-most kind w (suc n) b h = go (serves kind w b) (first-most kind w n (suc b) (omega arith))
+  where
+    go : (t : Bool) → firstServed kind w n (suc b) ≤ 10 → cond t b (firstServed kind w n (suc b)) ≤ 10
+    go true l = omega arith
+    go false l = l
+
+next-most : (kind : PassKind) (w b : ℕ) → nextBoard kind w b ≤ 10
+unfolding nextBoard
+next-most kind w b = first-most kind w (10 - b) b (omega arith)
+
+first-is : (kind : PassKind) → IsCode kind (firstCode kind)
+first-is Reprogramming = (omega arith, omega arith)
+first-is Ping = refl
+
+next-is : (kind : PassKind) (code : ℕ) → IsCode kind code → code < 3 → IsCode kind (code + 1)
+next-is Reprogramming code i l = (omega arith, omega arith)
+next-is Ping code i l = absurd (let z : ⊥ = omega arith in z)
+
+three-calls : (tries : ℕ) → CallsKept (callsAt tries)
+three-calls tries = go (ltb tries 2) refl
+  where
+    go : (t : Bool) → ltb tries 2 ≡ t → CallsKept (cond t (tries + 1) 3)
+    go true e = let l = ltb-true tries 2 e in omega arith
+    go false e = omega arith
+
+-- ---- power-up, and the begin of a pass
+
+pub sound-power-up : SoundCrate Reprogramming crateAtPowerUp
+sound-power-up =
+    record {
+      length-dna = refl;
+      length-calls = refl;
+      length-errors = refl;
+      length-failed = refl;
+      board = omega arith;
+      code = λ h. absurd (let z : ⊥ = omega arith in z);
+      tries = omega arith;
+      calls = λ b. rw (zeros 10 b) (omega arith);
+      dna = λ b. rw (zeros 10 b) (omega arith);
+      failed = λ b. inl (zeros 10 b);
+    }
+
+pub sound-begun : (last kind : PassKind) (w : ℕ) (k : Crate) → SoundCrate last k → SoundCrate kind (begunCrate kind w k)
+unfolding begunCrate
+sound-begun last kind w k s =
+    record {
+      length-dna = length-kept kind (k .dna) (s .length-dna);
+      length-calls = length-kept kind (k .calls) (s .length-calls);
+      length-errors = length-kept kind (k .«crc_errors») (s .length-errors);
+      length-failed = refl;
+      board = next-most kind w 0;
+      code = λ h. first-is kind;
+      tries = omega arith;
+      calls = each-kept CallsKept kind (k .calls) (omega arith) (s .calls);
+      dna = each-kept DnaKept kind (k .dna) (omega arith) (s .dna);
+      failed = λ b. inl (zeros 10 b);
+    }
+
+-- ---- replies and time-ups
+
+module _ (kind : PassKind) (w : ℕ) where
+  sound-placed : (k : Crate) (b code tries : ℕ) → b ≤ 10 → (b < 10 → IsCode kind code) → tries ≤ 2 → SoundCrate kind k → SoundCrate kind (placed k b code tries)
+  unfolding placed
+  sound-placed k b code tries l i t s =
+      record {
+        length-dna = s .length-dna;
+        length-calls = s .length-calls;
+        length-errors = s .length-errors;
+        length-failed = s .length-failed;
+        board = l;
+        code = i;
+        tries = omega arith;
+        calls = s .calls;
+        dna = s .dna;
+        failed = s .failed;
+      }
+
+  sound-advanced : (k : Crate) → SoundCrate kind k → SoundCrate kind (advanced kind w k)
+  unfolding advanced
+  sound-advanced k s =
+      let b = nextBoard kind w (k .board + 1) in
+      sound-placed k b (firstCode kind) 0 (next-most kind w (k .board + 1)) (λ h. first-is kind) (omega arith) s
+
+  sound-marked : (k : Crate) → k .board < 10 → SoundCrate kind k → SoundCrate kind (marked k)
+  unfolding marked
+  sound-marked k h s =
+      record {
+        length-dna = s .length-dna;
+        length-calls = s .length-calls;
+        length-errors = s .length-errors;
+        length-failed = length-set (k .failed) (k .board) (k .code) ∙ s .length-failed;
+        board = s .board;
+        code = s .code;
+        tries = s .tries;
+        calls = s .calls;
+        dna = s .dna;
+        failed = each-set (FailedIn kind) (k .failed) (k .board) (k .code) (inr (s .code h)) (s .failed);
+      }
+
+  module _ (k : Crate) (h : Heard) where
+    length-noted : (l : List ℕ) (n : ℕ) → length l ≡ 10 → length (notedIn k l n) ≡ 10
+    unfolding notedIn
+    length-noted l n e = go (eqb (k .code) 4)
+      where
+        go : (t : Bool) → length (cond t (set l (k .board) n) l) ≡ 10
+        go true = length-set l (k .board) n ∙ e
+        go false = e
+
+    each-noted : (P : ℕ → Type 0) (l : List ℕ) (n : ℕ) → (k .code ≡ 4 → P n) → ((b : ℕ) → P (getD l b 0)) → (b : ℕ) → P (getD (notedIn k l n) b 0)
+    unfolding notedIn
+    each-noted P l n p f b = go (eqb (k .code) 4) refl
+      where
+        go : (t : Bool) → eqb (k .code) 4 ≡ t → P (getD (cond t (set l (k .board) n) l) b 0)
+        go true e = each-set P l (k .board) n (p (eqb-true _ _ e)) f b
+        go false e = f b
+
+    -- a good reply to a ping carries a DNA "below 2^57"
+    module _ (below : k .code ≡ 4 → h .good ≡ true → h .dna < 2 ^ 57) where
+      sound-noted : h .good ≡ true → SoundCrate kind k → SoundCrate kind (noted k h)
+      unfolding noted
+      sound-noted g s =
+          record {
+            length-dna = length-noted (k .dna) (h .dna) (s .length-dna);
+            length-calls = length-noted (k .calls) (callsAt (k .tries)) (s .length-calls);
+            length-errors = length-noted (k .«crc_errors») (h .«crc_errors») (s .length-errors);
+            length-failed = s .length-failed;
+            board = s .board;
+            code = s .code;
+            tries = s .tries;
+            calls = each-noted CallsKept (k .calls) (callsAt (k .tries)) (λ e. three-calls (k .tries)) (s .calls);
+            dna = each-noted DnaKept (k .dna) (h .dna) (λ e. let l = below e g in omega arith) (s .dna);
+            failed = s .failed;
+          }
+
+      pub sound-after : SoundCrate kind k → SoundCrate kind (crateAfter kind w k h)
+      sound-after s =
+          after-any kind w k h (SoundCrate kind)
+          (record {
+            done = s;
+            next-step = λ d g l.
+                sound-placed (noted k h) (k .board) (k .code + 1) 0 (s .board) (λ u. next-is kind (k .code) (s .code d) l) (omega arith)
+                (sound-noted g s);
+            next-board = λ d g l. sound-advanced (noted k h) (sound-noted g s);
+            again = λ d l. sound-placed k (k .board) (k .code) (k .tries + 1) (s .board) (s .code) (omega arith) s;
+            failed = λ d l. sound-advanced (marked k) (sound-marked k d s);
+          })

@@ -1,0 +1,124 @@
+-- What a pass left stays until the next begins (`pass-stays`), which clears it (`records-cleared`); before any there is none (`no-number-before`).
+-- Assumes nothing.
+use Prim.Native.Nat.{ℕ, zero, suc, _<_}
+use mathlib.Core.Path.{_≡_, refl, sym, ap, _∙_, subst}
+use mathlib.Core.Bool.{Bool, true, false}
+use mathlib.Core.List.{List, [], _∷_}
+use native.Mathlib.Omega.{arith}
+use lib.Dec.{ltb}
+use borrow.Author.Tests.{ltb-true, ltb-false}
+use Rattle.refusals.specs.Tables.{Answer, given, refused}
+use Rattle.refusals.specs.Writing.{writing}
+use Rattle.refusals.proofs.Writing.{wrote-front}
+use Rattle.commands.specs.declared.Command.{Command}
+use Rattle.commands.specs.declared.Command.the-variants.{Read, Write, Start, Stop, Ping, CrateReset}
+use Rattle.blocks.specs.Blocks.{headerWords}
+use Rattle.steps.specs.declared.Heard.{Heard}
+use Rattle.run.specs.declared.Run.{Run}
+use Rattle.four_crates.specs.FourCrates.{inPass, sentOn, failedAt, records}
+use Rattle.four_crates.proofs.Records.{records-begun}
+use Rattle.board.specs.State.{withRun, freshBoard}
+use Rattle.board.specs.Commands.{boardAnswer, blockIn, written, pinged, carriedOut, afterCommand, boardAfter}
+use Rattle.board.specs.SlowControl.{boardReplied, sentAnswer}
+use Rattle.board.specs.SentOut.{failureRules, failureDue}
+use Rattle.board.specs.declared.Board.{Board}
+use Rattle.board.proofs.Serving.{board-high}
+use Rattle.reachable.specs.Calls.{Call, command, clockStep, trigger, reply, timeUp, afterCall, afterAll, beginsPass, isWriteOrPing, noWriteOrPing}
+use Rattle.reachable.specs.Stays.{PassStays}
+use Rattle.reachable.proofs.OneCall.{false≢true, Free, none-first}
+use Rattle.reachable.proofs.OnPasses.{all-done, replied-done}
+
+-- ---- with no frame outstanding, a call that begins no pass changes the run alone
+
+command-run : (β : Board) (block : List ℕ) (a : Answer Command) → isWriteOrPing a ≡ false → afterCommand β block a ≡ withRun β (afterCommand β block a .run)
+unfolding withRun
+command-run β block (given (Read kind)) e = refl
+command-run β block (given Write) e = false≢true (sym e)
+command-run β block (given (Start run)) e = refl
+command-run β block (given Stop) e = refl
+command-run β block (given Ping) e = false≢true (sym e)
+command-run β block (given (CrateReset c)) e = refl
+command-run β block (refused n p) e = refl
+
+-- nothing is outstanding on any crate, or there is no such crate
+pub replied-same : (β : Board) (c : ℕ) (h : Heard) → inPass (β .crates) ≡ false → boardReplied β c h ≡ β
+replied-same β c h d = go (ltb c 4) refl
+  where
+    go : (t : Bool) → ltb c 4 ≡ t → boardReplied β c h ≡ β
+    go true p = let l = ltb-true c 4 p in replied-done β c h l (all-done (β .crates) d c l)
+    go false p = board-high β c h (ltb-false c 4 p)
+
+replied-run : (β : Board) (c : ℕ) (h : Heard) → inPass (β .crates) ≡ false → boardReplied β c h ≡ withRun β (boardReplied β c h .run)
+unfolding withRun
+replied-run β c h d = let e = replied-same β c h d in e ∙ ap (λ (γ : Board). withRun β (γ .run)) (sym e)
+
+call-run : (β : Board) (x : Call) → inPass (β .crates) ≡ false → Free isWriteOrPing β x → afterCall β x ≡ withRun β (afterCall β x .run)
+unfolding afterCall withRun
+call-run β (command words) d free = command-run β (blockIn words) (boardAnswer β words) free
+call-run β (clockStep ticks) d free = refl
+call-run β (trigger fields out) d free = refl
+call-run β (reply c bytes) d free = replied-run β c _ d
+call-run β (timeUp c) d free = replied-run β c _ d
+
+calls-run : (β : Board) (xs : List Call) → inPass (β .crates) ≡ false → noWriteOrPing β xs ≡ true → afterAll β xs ≡ withRun β (afterAll β xs .run)
+unfolding withRun
+calls-run β [] d e = refl
+calls-run β (x ∷ xs) d e =
+    let first = none-first isWriteOrPing β x xs e in
+    let one = call-run β x d (first .0) in
+    calls-run (afterCall β x) xs (ap (λ (γ : Board). inPass (γ .crates)) one ∙ d) (first .1)
+    ∙ ap (λ (γ : Board). withRun γ (afterAll (afterCall β x) xs .run)) one
+
+-- ---- so what the last pass left stays
+
+stays-run : (β : Board) (r : Run) → PassStays β (withRun β r)
+unfolding withRun writing headerWords
+stays-run β r =
+    record {
+      number = λ c. refl;
+      kept = refl;
+      frame = λ f. refl;
+      answer = λ n out. refl;
+      message = λ n out after m w. wrote-front (failureRules (withRun β r) n) (failureDue (withRun β r) n) out m after w;
+      rest = refl;
+    }
+
+-- 01, Slow control: "The number stays after the pass until the next begins", and records "are cleared when a pass begins"
+pub pass-stays : (now : Board) (xs : List Call) → inPass (now .crates) ≡ false → noWriteOrPing now xs ≡ true → PassStays now (afterAll now xs)
+pass-stays now xs d e = subst (PassStays now) (sym (calls-run now xs d e)) (stays-run now (afterAll now xs .run))
+
+-- ---- until the next begins
+
+carried-records : (β : Board) (block : List ℕ) (c : Command) → beginsPass c ≡ true → records (carriedOut β block c .crates) ≡ []
+unfolding written pinged
+carried-records β block (Read kind) p = false≢true p
+carried-records β block Write p = records-begun _ _ (β .crates)
+carried-records β block (Start run) p = false≢true p
+carried-records β block Stop p = false≢true p
+carried-records β block Ping p = records-begun _ _ (β .crates)
+carried-records β block (CrateReset c) p = false≢true p
+
+pub records-cleared : (β : Board) (w : List ℕ) (c : Command) → boardAnswer β w ≡ given c → beginsPass c ≡ true → records (boardAfter β w .crates) ≡ []
+records-cleared β w c e p = ap (λ (a : Answer Command). records (afterCommand β (blockIn w) a .crates)) e ∙ carried-records β (blockIn w) c p
+
+-- ---- before any pass: the number "is 0 before any", and there are "no failure records"
+
+module _ (id firmware : ℕ) (xs : List Call) (free : noWriteOrPing (freshBoard id firmware) xs ≡ true) where
+  since-power-up : PassStays (freshBoard id firmware) (afterAll (freshBoard id firmware) xs)
+  unfolding freshBoard inPass
+  since-power-up = pass-stays (freshBoard id firmware) xs refl free
+
+  none-sent : (c : ℕ) → c < 4 → sentAnswer (freshBoard id firmware) c ≡ given 0
+  unfolding freshBoard sentOn
+  none-sent zero h = refl
+  none-sent (suc zero) h = refl
+  none-sent (suc (suc zero)) h = refl
+  none-sent (suc (suc (suc zero))) h = refl
+  none-sent (suc (suc (suc (suc c)))) h = absurd (omega arith)
+
+  pub no-number-before : (c : ℕ) → c < 4 → sentAnswer (afterAll (freshBoard id firmware) xs) c ≡ given 0
+  no-number-before c h = since-power-up .number c ∙ none-sent c h
+
+  pub no-record-before : records (afterAll (freshBoard id firmware) xs .crates) ≡ []
+  unfolding freshBoard records failedAt
+  no-record-before = since-power-up .kept
