@@ -1,26 +1,22 @@
 -- Demand 3 (`demand-3`): after an accepted write or ping, any order of replies and time-ups gets what the crates get one by one.
 -- Assumes nothing.
-use Prim.Native.Nat.{ℕ, _<_, _≤_}
+use Prim.Native.Nat.{ℕ, _<_}
 use mathlib.Core.Path.{_≡_, refl, sym, ap, ap₂, _∙_, subst}
 use mathlib.Core.List.{List, [], _∷_, _++_}
 use mathlib.Core.Bool.{Bool, true, false, not, _&&_}
-use native.Mathlib.Omega.{arith}
-use lib.ListN.{length}
-use borrow.Author.Tests.{ltb-true, ltb-false}
-use lib.Dec.{ltb}
 use Rattle.run.specs.Run.{isRunning}
 use Rattle.crate_pass.specs.declared.Crate.{Crate}
-use Rattle.four_crates.specs.FourCrates.{noCrate, inPass}
+use Rattle.four_crates.specs.FourCrates.{noCrate}
 use Rattle.board.specs.State.{isIdle}
 use Rattle.board.specs.declared.Board.{Board}
 use Rattle.cells.specs.Order.{only, from, ordered}
 use Rattle.cells.proofs.Order.{only-ordered}
 use Rattle.cells.proofs.Cells.{turned, in-order-out, in-order-end, out-from, out, end}
 use Rattle.any_order.specs.Steps.{Event, Result, refusal}
-use Rattle.any_order.specs.AnyOrder.{Item, ItemResult, itemCrate, resultCrate, Begin, write, ping, Accepted, startOf, begunBoard}
+use Rattle.any_order.specs.AnyOrder.{Item, ItemResult, itemCrate, resultCrate, Begin, Accepted, startOf, begunBoard}
 use Rattle.any_order.specs.AnyOrder.{fetched, results, final, framesIn, framesOn, allDone, refusedAll, AnyOrder}
 use Rattle.any_order.proofs.Begun.{begunCrates, four, start-is, still-after}
-use Rattle.any_order.proofs.OneCrate.{stepCells, cratesAfter, final-is, results-are, crates-are, alone}
+use Rattle.any_order.proofs.OneCrate.{stepCells, final-is, results-are, crates-are, alone}
 use Rattle.any_order.proofs.SentOut.{in-pass, records-given, records-most, list-is, list-given, list-begun}
 
 turned-refused : (f : ℕ → Crate → Event → Result × Crate) (xs : List Item) → turned noCrate f (refusal 11) xs ≡ refusedAll xs

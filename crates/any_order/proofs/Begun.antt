@@ -18,10 +18,10 @@ use Rattle.board.specs.State.{crateAt, situationOf, withCrates}
 use Rattle.board.specs.Commands.{blockIn, written, pinged, afterCommand}
 use Rattle.board.specs.declared.Board.{Board}
 use Rattle.any_order.specs.Steps.{Step, step, steps, first}
-use Rattle.any_order.specs.AnyOrder.{Begin, write, ping, Accepted, startOf, kindOf, blockOf, wordOf, begunBoard, passOn}
+use Rattle.any_order.specs.AnyOrder.{Begin, write, ping, Accepted, startOf, kindOf, blockOf, wordOf, begunBoard}
 use Rattle.any_order.proofs.Places.{first-at, begun-todo}
-use Rattle.any_order.proofs.Walks.{view, view-begun, fit-begun}
-use Rattle.any_order.proofs.Frames.{Bound, bound-begun}
+use Rattle.any_order.proofs.Walks.{view-begun, fit-begun}
+use Rattle.any_order.proofs.Frames.{bound-begun}
 use Rattle.any_order.proofs.Runs.{Runs}
 
 -- ---- the state

@@ -1,11 +1,11 @@
 -- Demand 3 for any results that keep the contracts of the public calls (`demand-3-of-calls`).
 -- Assumes nothing.
 use Prim.Native.Nat.{ℕ, _≤_}
-use mathlib.Core.Path.{_≡_, refl, sym, ap, ap₂, _∙_, subst}
+use mathlib.Core.Path.{_≡_, refl, sym, ap, ap₂, _∙_}
 use mathlib.Core.List.{List, [], _∷_, map}
-use lib.ListN.{length, take}
+use lib.ListN.{length}
 use Rattle.refusals.specs.Tables.{Answer, given, refused, lowest}
-use Rattle.refusals.specs.Writing.{writing, Wrote}
+use Rattle.refusals.specs.Writing.{Wrote}
 use Rattle.refusals.specs.declared.Written.{Written}
 use Rattle.refusals.specs.declared.Written.the-variants.{Length, Refused}
 use Rattle.refusals.proofs.Tables.{given≢refused, given-same}
@@ -16,8 +16,8 @@ use Rattle.board.specs.declared.Board.{Board}
 use Rattle.board.specs.declared.Obedience.{Obedience}
 use Rattle.board.specs.declared.Replied.{Replied}
 use Rattle.cells.specs.Order.{ordered}
-use Rattle.any_order.specs.Steps.{Event, reply, timeUp, Result}
-use Rattle.any_order.specs.AnyOrder.{Item, ItemResult, itemCrate, resultCrate, Begin, write, ping, Accepted, startOf}
+use Rattle.any_order.specs.Steps.{Event, reply, timeUp}
+use Rattle.any_order.specs.AnyOrder.{ItemResult, itemCrate, resultCrate, Begin, write, ping, Accepted, startOf}
 use Rattle.any_order.specs.AnyOrder.{answerTo, afterItem, framesGiven, fetched, sentAfter, resultOf, results, final}
 use Rattle.any_order.specs.Calls.{BegunBy, ServedItem, RepliesTo, Promised, Chained, lastBoard, framesSeen, seen, itemsOf, OfCalls}
 use Rattle.any_order.proofs.Fetch.{fetch-gives}

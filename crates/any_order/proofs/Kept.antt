@@ -8,10 +8,10 @@ use native.Mathlib.Omega.{arith}
 use lib.ListN.{length, getD, set, replicate}
 use lib.Seq.{getD-set-same, getD-set-other}
 use lib.Dec.{ltb, eqb}
-use borrow.Author.Tests.{ltb-true, ltb-false, lt-ltb, eq-eqb, ne-eqb}
+use borrow.Author.Tests.{ltb-true, ltb-false, eq-eqb, ne-eqb}
 use Rattle.ftu_list.specs.declared.Entry.{Entry}
 use Rattle.steps.specs.declared.Heard.{Heard}
-use Rattle.crate_pass.specs.Crate.{entriesFrom, entriesIn, callsAt, notedIn, noted}
+use Rattle.crate_pass.specs.Crate.{entriesIn, callsAt, notedIn, noted}
 use Rattle.crate_pass.proofs.Entries.{entry, entries-set}
 use Rattle.crate_pass.specs.declared.PassKind.{PassKind}
 use Rattle.crate_pass.specs.declared.PassKind.the-variants.{Reprogramming, Ping}
@@ -160,22 +160,3 @@ boards-noted one k h e t = sym (found-other (step (k .board) (k .code)) (k .trie
 boards-noted two k h e t = sym (found-other (step (k .board) (k .code)) (k .tries) h (replicate 10 nothing) (λ q. omega arith))
 boards-noted three k h e t = sym (found-other (step (k .board) (k .code)) (k .tries) h (replicate 10 nothing) (λ q. omega arith))
 boards-noted four k h e t = noted-ping k h t e
-
--- and in a reprogramming pass nothing is noted
-noted-none : (k : Crate) (h : Heard) → (k .code ≡ 4 → ⊥) → entriesIn (noted k h) ≡ entriesIn k
-unfolding noted notedIn
-noted-none k h e = rw (ne-eqb _ _ e)
-
-pub entries-stay : {kind : PassKind} {code : ℕ} → Code kind code → kind ≡ Reprogramming → (k : Crate) (h : Heard) → k .code ≡ code
-    → entriesIn (noted k h) ≡ entriesIn k
-entries-stay one p k h e = noted-none k h (λ q. omega arith)
-entries-stay two p k h e = noted-none k h (λ q. omega arith)
-entries-stay three p k h e = noted-none k h (λ q. omega arith)
-entries-stay four p k h e = absurd (no-ping p)
-  where
-    isPing : PassKind → ℕ
-    isPing Reprogramming = 0
-    isPing Ping = 1
-
-    no-ping : Ping ≡ Reprogramming → ⊥
-    no-ping q = let z : _≡_ {A = ℕ} 1 0 = ap isPing q in omega arith

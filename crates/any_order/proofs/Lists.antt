@@ -1,5 +1,4 @@
--- The FTU list of four crates, ten entries each, has the counts, the active words and the entries that the steps give (`list-body`), and depends on the
--- crates' entries alone (`entries-same`).
+-- The FTU list of four crates, ten entries each, has the counts, the active words and the entries that the steps give (`list-body`).
 -- Assumes nothing.
 use Prim.Native.Nat.{ℕ, zero, suc, _+_, _*_, _/_, _%_, _<_, _≤_}
 use mathlib.Core.Path.{_≡_, refl, sym, ap, ap₂, _∙_}
@@ -7,7 +6,7 @@ use mathlib.Core.List.{List, [], _∷_, _++_, map, append-assoc}
 use mathlib.Core.Bool.{Bool, true, false, cond}
 use native.Mathlib.Omega.{arith}
 use lib.Dec.{eqb, ltb}
-use lib.ListN.{length, take, drop, getD, set, replicate, length-set, length-map, drop-of-length-le}
+use lib.ListN.{length, drop, getD, set, replicate, length-set, drop-of-length-le}
 use lib.Seq.{drop-cons}
 use Rattle.numbers.specs.Numbers.{digits}
 use Rattle.configuration.specs.Configuration.{addressOf}
@@ -19,19 +18,10 @@ use Rattle.steps.specs.declared.Heard.{Heard}
 use Rattle.crate_pass.specs.Crate.{silent, entriesIn}
 use Rattle.crate_pass.specs.declared.Crate.{Crate}
 use Rattle.four_crates.specs.FourCrates.{crateOf, entryAt, entriesFrom, entriesOf}
-use Rattle.any_order.specs.Steps.{Step, Event, heard, Found, nothing, found, sixWords, wordsFrom, howMany, Pass, pass, foundBy, reactTo, react}
+use Rattle.any_order.specs.Steps.{Step, Event, heard, Found, nothing, found, sixWords, wordsFrom, howMany, Pass, foundBy, reactTo, react}
 use Rattle.any_order.specs.AnyOrder.{Item, passEnd, ofFour}
 use Rattle.any_order.proofs.Kept.{foundIn}
 use Rattle.any_order.proofs.Frames.{byTests}
-
--- ---- the list depends on the crates' entries alone
-
-pub entries-same : (cs ds : List Crate) → ((c : ℕ) → c < 4 → entriesIn (crateOf cs c) ≡ entriesIn (crateOf ds c))
-    → (n k : ℕ) → k + n ≤ 40 → entriesFrom cs n k ≡ entriesFrom ds n k
-entries-same cs ds same zero k h = refl
-entries-same cs ds same (suc n) k h =
-    ap₂ (λ (own : List Entry) (es : List Entry). getD own (k % 10) silent ∷ es)
-    (same (k / 10) (omega arith)) (entries-same cs ds same n (suc k) (omega arith))
 
 -- ---- the entries of the list are those of crate 0, then those of 1, 2 and 3
 

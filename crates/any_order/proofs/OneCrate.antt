@@ -9,7 +9,6 @@ use borrow.Author.Tests.{le-ltb}
 use Rattle.refusals.specs.Tables.{given}
 use Rattle.crate_pass.specs.Crate.{entriesIn, isDone}
 use Rattle.crate_pass.specs.declared.PassKind.{PassKind}
-use Rattle.crate_pass.specs.declared.PassKind.the-variants.{Reprogramming}
 use Rattle.crate_pass.specs.declared.Crate.{Crate}
 use Rattle.four_crates.specs.FourCrates.{noCrate, sentOn}
 use Rattle.board.specs.State.{crateAt}
@@ -26,7 +25,7 @@ use Rattle.any_order.proofs.Walks.{view, view-first, view-none, view-be
 use Rattle.any_order.proofs.Frames.{bound-sent, most-frames, frames-accepted}
 use Rattle.any_order.proofs.Fetch.{frameIn, fetched-step}
 use Rattle.any_order.proofs.Served.{crateStep, endCells, outCells, final-cells, results-cells}
-use Rattle.any_order.proofs.Runs.{run-end, run-results, run-runs, run-sent, run-list}
+use Rattle.any_order.proofs.Runs.{run-end, run-results, run-runs, run-sent}
 use Rattle.any_order.proofs.Begun.{begunCrates, base, base-with, start-is, four, crateBegun, crate-begun, sent-begun, runs-begun}
 
 module _ (β : Board) (g : Begin) (a : Accepted β g) where

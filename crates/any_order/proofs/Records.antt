@@ -1,18 +1,18 @@
 -- The failure records of the four crates are the frames of the steps that failed, crate after crate (`records-are`).
 -- Assumes nothing.
-use Prim.Native.Nat.{ℕ, zero, suc, _+_, _*_, _/_, _%_, _<_, _≤_}
-use mathlib.Core.Path.{_≡_, refl, sym, ap, ap₂, _∙_}
+use Prim.Native.Nat.{ℕ, zero, suc, _+_, _*_, _/_, _%_, _<_}
+use mathlib.Core.Path.{_≡_, refl, ap, ap₂, _∙_}
 use mathlib.Core.List.{List, [], _∷_, _++_, map}
 use mathlib.Core.Bool.{Bool, true, false, cond}
 use native.Mathlib.Omega.{arith}
 use lib.Dec.{eqb}
-use lib.ListN.{length, getD}
+use lib.ListN.{getD}
 use borrow.Author.Tests.{lt-ltb}
 use Rattle.steps.specs.Steps.{stepFrame}
 use Rattle.crate_pass.specs.declared.Crate.{Crate}
 use Rattle.four_crates.specs.FourCrates.{crateOf, failedAt, failure, recordsFrom, records}
 use Rattle.four_crates.specs.declared.Failure.{Failure}
-use Rattle.any_order.specs.Steps.{Step, step}
+use Rattle.any_order.specs.Steps.{step}
 use Rattle.any_order.specs.AnyOrder.{ofFour}
 use Rattle.any_order.proofs.Fetch.{frameIn}
 use Rattle.any_order.proofs.Kept.{failedSteps, failedFrom, failed-split}

@@ -1,20 +1,20 @@
 -- A crate's run is the run of its pass (`run-end`, `run-results`), and its number is that of the frames sent (`run-sent`).
 -- Assumes nothing.
-use Prim.Native.Nat.{ℕ, _+_, _<_, _≤_}
-use mathlib.Core.Path.{_≡_, refl, sym, ap, ap₂, _∙_}
-use mathlib.Core.List.{List, [], _∷_, _++_, map}
+use Prim.Native.Nat.{ℕ, _+_, _<_}
+use mathlib.Core.Path.{_≡_, refl, ap, ap₂, _∙_}
+use mathlib.Core.List.{List, [], _∷_, map}
 use mathlib.Core.Bool.{Bool, true, false, cond}
 use native.Mathlib.Omega.{arith}
-use lib.ListN.{length, length-append, length-map}
+use lib.ListN.{length, length-append}
 use lib.Dec.{ltb, leb}
 use borrow.Author.Tests.{lt-ltb}
-use Rattle.refusals.specs.Tables.{Answer, given, refused}
-use Rattle.ftu_list.specs.declared.Entry.{Entry}
+use Rattle.refusals.specs.Tables.{given, refused}
 use Rattle.configuration.specs.Configuration.{activeWord}
 use Rattle.steps.specs.Steps.{stepFrame}
 use Rattle.steps.specs.declared.Heard.{Heard}
 use Rattle.crate_pass.specs.Crate.{entriesIn, countedFrame, placed, advanced, stepped, noted, marked, Moved, told, passed, missed, moved}
 use Rattle.crate_pass.specs.Crate.{crateAnswer, crateAfter}
+use Rattle.crate_pass.proofs.Entries.{entries-stay}
 use Rattle.crate_pass.specs.declared.PassKind.{PassKind}
 use Rattle.crate_pass.specs.declared.PassKind.the-variants.{Reprogramming}
 use Rattle.crate_pass.specs.declared.Outcome.the-variants.{Again, BoardFailed}
@@ -24,7 +24,8 @@ use Rattle.cells.proofs.Cells.{endAlone, outAlone}
 use Rattle.any_order.specs.Steps.{Step, step, steps, Event, heard, Pass, Result, refusal, react}
 use Rattle.any_order.specs.AnyOrder.{Item, ItemResult, framesIn, passResults, passEnd, stepOf}
 use Rattle.any_order.proofs.Walks.{Fit, view, resultFor, walks}
-use Rattle.any_order.proofs.Fits.{fit-kept, list-kept}
+use Rattle.any_order.proofs.Places.{Code, one, two, three}
+use Rattle.any_order.proofs.Fits.{fit-kept}
 use Rattle.any_order.proofs.Frames.{Bound, bound-kept, bound-sent, steps-most}
 use Rattle.any_order.proofs.Fetch.{frameIn}
 use Rattle.any_order.proofs.Served.{crateStep}
@@ -175,10 +176,15 @@ module _ (kind : PassKind) (block : List ℕ) (c : ℕ) where
       )
 
 -- a reprogramming pass leaves the list
+no-ping : {code : ℕ} → Code Reprogramming code → code ≡ 4 → ⊥
+no-ping one q = omega arith
+no-ping two q = omega arith
+no-ping three q = omega arith
+
 module _ (block : List ℕ) (c : ℕ) where
   step-list : (k : Crate) (e : Event) → Fit Reprogramming k → entriesIn (crateStep Reprogramming block c k e .1) ≡ entriesIn k
   unfolding crateStep
-  step-list k e f = list-kept (activeWord block c) k (f .code) (heard (stepFrame block c (k .board) (k .code)) e)
+  step-list k e f = entries-stay Reprogramming (activeWord block c) k (heard (stepFrame block c (k .board) (k .code)) e) (no-ping (f .code))
 
   pub run-list : (k : Crate) (xs : List Item) → Fit Reprogramming k
       → entriesIn (endAlone noCrate (crateStep Reprogramming block) (refusal 11) c k xs) ≡ entriesIn k

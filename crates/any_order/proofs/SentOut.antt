@@ -16,27 +16,25 @@ use Rattle.blocks.specs.Blocks.{headerWords, failureBody}
 use Rattle.blocks.specs.declared.Header.{Header}
 use Rattle.ftu_list.specs.List.{listBody}
 use Rattle.ftu_list.specs.declared.Entry.{Entry}
-use Rattle.ftu_list.specs.declared.FtuList.{FtuList}
 use Rattle.crate_pass.specs.Crate.{entriesIn, isDone}
 use Rattle.crate_pass.proofs.Entries.{entries-kept}
-use Rattle.crate_pass.specs.declared.PassKind.{PassKind}
 use Rattle.crate_pass.specs.declared.PassKind.the-variants.{Reprogramming}
 use Rattle.crate_pass.specs.declared.Crate.{Crate}
 use Rattle.four_crates.specs.FourCrates.{inPass, entriesOf, failure, records, recordAt}
+use Rattle.four_crates.proofs.Entries.{same-list}
 use Rattle.board.specs.State.{crateAt}
 use Rattle.board.specs.SentOut.{headerOf, listRules, listOf, listDue, failureRules, failedFrame, failureDue}
 use Rattle.board.specs.declared.Board.{Board}
 use Rattle.cells.specs.Order.{only}
-use Rattle.any_order.specs.Steps.{Found, wordsFrom, howMany, Pass}
 use Rattle.any_order.specs.AnyOrder.{Item, itemCrate, Begin, write, ping, Accepted, startOf, blockOf, wordOf, activeOf, begunBoard, final}
 use Rattle.any_order.specs.AnyOrder.{passEnd, frameOn, passOn, endOn, allDone}
-use Rattle.any_order.specs.AnyOrder.{ofFour, failuresOn, failures, duringPass, recordRules, pingList, listAfter, listBegun}
+use Rattle.any_order.specs.AnyOrder.{failuresOn, failures, duringPass, recordRules, pingList, listAfter, listBegun}
 use Rattle.any_order.proofs.Kept.{foundIn, failedSteps, rising-most}
 use Rattle.any_order.proofs.Fetch.{frameIn}
 use Rattle.any_order.proofs.Runs.{run-list}
 use Rattle.any_order.proofs.Begun.{crateBegun, runs-begun}
 use Rattle.any_order.proofs.Records.{recordFrame, records-are}
-use Rattle.any_order.proofs.Lists.{entries-same, length-end, list-body}
+use Rattle.any_order.proofs.Lists.{length-end, list-body}
 use Rattle.any_order.proofs.OneCrate.{final-is, crate-is, done-is, failed-is, rising-is, boards-are, block-is}
 
 -- a frame is outstanding on some crate exactly where not all four are done
@@ -112,11 +110,10 @@ module _ (β : Board) (g : Begin) (a : Accepted β g) (xs : List Item) where
 
 -- a write leaves it
 list-write : (β : Board) (w : List ℕ) (a : Accepted β (write w)) (xs : List Item) → listBody (listOf (final (startOf β (write w)) xs)) ≡ listBody (listOf β)
-unfolding entriesOf
 list-write β w a xs =
     ap₂ (λ (active : List ℕ) (entries : List Entry). listBody (record { active = active; entries = entries }))
     (active-is β (write w) a xs)
-    (entries-same (final (startOf β (write w)) xs .crates) (β .crates) same 40 0 (omega arith))
+    (same-list (final (startOf β (write w)) xs .crates) (β .crates) same)
   where
     same : (c : ℕ) → c < 4 → entriesIn (crateAt (final (startOf β (write w)) xs) c) ≡ entriesIn (crateAt β c)
     same c h =

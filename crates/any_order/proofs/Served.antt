@@ -3,22 +3,20 @@
 use Prim.Native.Nat.{ℕ, _<_, _≤_}
 use mathlib.Core.Path.{_≡_, refl, sym, ap, ap₂, _∙_}
 use mathlib.Core.List.{List, [], _∷_, map}
-use mathlib.Core.Bool.{Bool, true, false, cond}
 use native.Mathlib.Omega.{arith}
 use lib.ListN.{length, getD, set}
-use lib.Seq.{getD-set-same, set-getD}
-use borrow.Author.Tests.{lt-ltb, le-ltb}
-use Rattle.refusals.specs.Tables.{Answer, given, refused}
+use lib.Seq.{getD-set-same}
+use Rattle.refusals.specs.Tables.{Answer}
 use Rattle.configuration.specs.Configuration.{activeWord}
 use Rattle.steps.specs.Steps.{stepFrame}
 use Rattle.steps.specs.declared.Heard.{Heard}
-use Rattle.crate_pass.specs.Crate.{isDone, crateAnswer, crateAfter}
+use Rattle.crate_pass.specs.Crate.{crateAnswer, crateAfter}
 use Rattle.crate_pass.specs.declared.PassKind.{PassKind}
 use Rattle.crate_pass.specs.declared.Outcome.{Outcome}
 use Rattle.crate_pass.specs.declared.Crate.{Crate}
-use Rattle.four_crates.specs.FourCrates.{noCrate, servedAnswer}
-use Rattle.board.specs.State.{crateAt, withCrates}
-use Rattle.board.specs.SlowControl.{frameAt, movedAt, replyAnswer, afterReply, boardReplied}
+use Rattle.four_crates.specs.FourCrates.{noCrate}
+use Rattle.board.specs.State.{withCrates}
+use Rattle.board.specs.SlowControl.{frameAt}
 use Rattle.board.specs.declared.Board.{Board}
 use Rattle.any_order.specs.Steps.{Event, heard, Result, refusal}
 use Rattle.any_order.specs.AnyOrder.{Item, ItemResult, itemCrate, afterItem, heardOn, resultOf, fetched}

@@ -1,12 +1,12 @@
 -- A crate stands for a pass (`view`), and a step of the crate is a step of that pass (`walks`).
 -- Assumes nothing.
 use Prim.Native.Nat.{ℕ, zero, suc, _+_, _-_, _<_, _≤_}
-use mathlib.Core.Path.{_≡_, refl, sym, ap, ap₂, _∙_, subst}
+use mathlib.Core.Path.{_≡_, refl, sym, ap, ap₂, _∙_}
 use mathlib.Core.List.{List, [], _∷_, _++_, map}
-use mathlib.Core.Bool.{Bool, true, false, cond}
+use mathlib.Core.Bool.{Bool, true, false}
 use native.Mathlib.Omega.{arith}
-use lib.ListN.{length, getD, set, replicate, length-set}
-use lib.Dec.{ltb, leb}
+use lib.ListN.{length, getD, set, replicate}
+use lib.Dec.{ltb}
 use borrow.Author.Tests.{ltb-true, ltb-false, lt-ltb, le-ltb, le-leb, lt-leb}
 use Rattle.refusals.specs.Tables.{Answer, given}
 use Rattle.steps.specs.declared.Heard.{Heard}
@@ -21,8 +21,8 @@ use Rattle.any_order.specs.Steps.{Step, step, stepsFrom, steps, Event, h
 use Rattle.any_order.specs.Steps.{first, none, others, foundBy, says, reactTo, react}
 use Rattle.any_order.specs.AnyOrder.{sentAfter, stepOf}
 use Rattle.any_order.proofs.Places.{Code, one, two, three, four, first-code, later, todoAt, todo-here, todo-done, next-board-todo, begun-todo}
-use Rattle.any_order.proofs.Places.{others-later, Place, at, past, place, first-at, none-at, next-least}
-use Rattle.any_order.proofs.Kept.{failedSteps, NoneFrom, failed-set, none-after, boardsOf, boards-noted}
+use Rattle.any_order.proofs.Places.{others-later, Place, at, past, place, first-at, none-at}
+use Rattle.any_order.proofs.Kept.{failedSteps, NoneFrom, failed-set, boardsOf, boards-noted}
 
 -- ---- the pass that a crate stands for
 

@@ -26,7 +26,7 @@ use Rattle.board.specs.SlowControl.{frameAt, fetchRules, replyAnswer, boardRepl
 use Rattle.board.specs.SentOut.{headerOf, listRules, listOf, listDue, failureRules, failureDue}
 use Rattle.board.specs.declared.Board.{Board}
 use Rattle.cells.specs.Order.{only, from, ordered}
-use Rattle.any_order.specs.Steps.{Step, step, steps, servedFrom, Event, heard, Found, wordsFrom, howMany}
+use Rattle.any_order.specs.Steps.{Step, step, steps, servedFrom, Event, heard, wordsFrom, howMany}
 use Rattle.any_order.specs.Steps.{Pass, begun, Result, refusal, first, none, react}
 
 -- ---- items

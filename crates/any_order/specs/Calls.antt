@@ -18,7 +18,7 @@ use Rattle.board.specs.declared.Obedience.{Obedience}
 use Rattle.board.specs.declared.Replied.{Replied}
 use Rattle.cells.specs.Order.{ordered}
 use Rattle.any_order.specs.Steps.{Event, reply, timeUp}
-use Rattle.any_order.specs.AnyOrder.{Item, ItemResult, itemCrate, resultCrate, Begin, write, ping, startOf, sentAfter, results, final, AnyOrder}
+use Rattle.any_order.specs.AnyOrder.{Item, ItemResult, resultCrate, Begin, write, ping, startOf, sentAfter, results, final, AnyOrder}
 
 -- `obey` returned r: the write or the ping was accepted
 abbrev pub BegunBy : Board → Begin → Obedience → Type 0

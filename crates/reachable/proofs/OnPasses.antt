@@ -27,11 +27,11 @@ use Rattle.crate_pass.specs.declared.Crate.{Crate}
 use Rattle.crate_pass.proofs.Sound.{sound-begun, sound-after}
 use Rattle.four_crates.specs.FourCrates.{noCrate, crateOf, inPass, begunAll, servedAnswer}
 use Rattle.board.specs.State.{crateAt, activeWords, withCrates}
-use Rattle.board.specs.Commands.{boardAnswer, blockIn, written, pinged, carriedOut, afterCommand}
+use Rattle.board.specs.Commands.{boardAnswer, blockIn, written, pinged, afterCommand}
 use Rattle.board.specs.SlowControl.{frameAt, boardReplied}
 use Rattle.board.specs.declared.Board.{Board}
 use Rattle.any_order.specs.Steps.{Event, heard}
-use Rattle.any_order.specs.AnyOrder.{Begin, write, ping, Accepted, startOf, wordOf, mostFrames}
+use Rattle.any_order.specs.AnyOrder.{write, ping, wordOf, mostFrames}
 use Rattle.any_order.proofs.Begun.{Begun, begun-after}
 use Rattle.board.proofs.Serving.{board-low, board-high}
 use Rattle.any_order.proofs.Served.{crateStep}
