@@ -77,25 +77,24 @@ same-crate β c k l e =
 
 -- a frame of a reprogramming pass is no ping
 same-step : (β : Board) (c : ℕ) (e : Event) → Holds β → β .kind ≡ Reprogramming → c < 4 → isDone (crateAt β c) ≡ false
-    → Same β (withCrates β (set (β .crates) c (next β c e)))
-unfolding withCrates
+    → listOf (withCrates β (set (β .crates) c (next β c e))) ≡ listOf β
 same-step β c e h p l d =
     let four = h .reaches .four in
     let code : IsCode Reprogramming (crateAt β c .code) = rw p at (h .reaches .crates c l .code (leb-false _ _ d)) in
-    record {
-      list = same-crate β c (next β c e) (omega arith)
-          (entries-stay (β .kind) (wordOf (β .block) c) (crateAt β c) (heardOn β c e) (λ q. let m = code .1 in omega arith));
-      still = inl p;
-    }
+    same-crate β c (next β c e) (omega arith)
+    (entries-stay (β .kind) (wordOf (β .block) c) (crateAt β c) (heardOn β c e) (λ q. let m = code .1 in omega arith))
 
 same-event : (β : Board) (c : ℕ) (e : Event) → Holds β → NoPingUnderWay β → Same β (boardReplied β c (heardOn β c e))
+unfolding withCrates
 same-event β c e h (inr d) = rw (replied-same β c (heardOn β c e) d) (record { list = refl; still = inr d })
 same-event β c e h (inl p) = go (ltb c 4) refl (isDone (crateAt β c)) refl
   where
     go : (t : Bool) → ltb c 4 ≡ t → (u : Bool) → isDone (crateAt β c) ≡ u → Same β (boardReplied β c (heardOn β c e))
     go false q u d = rw (board-high β c (heardOn β c e) (ltb-false c 4 q)) (record { list = refl; still = inl p })
     go true q true d = rw (replied-done β c (heardOn β c e) (ltb-true c 4 q) d) (record { list = refl; still = inl p })
-    go true q false d = subst (Same β) (sym (board-low β c (heardOn β c e) (let l = ltb-true c 4 q in omega arith))) (same-step β c e h p (ltb-true c 4 q) d)
+    go true q false d =
+        let l = ltb-true c 4 q in
+        subst (Same β) (sym (board-low β c (heardOn β c e) (omega arith))) (record { list = same-step β c e h p l d; still = inl p })
 
 same-call : (β : Board) (x : Call) → Holds β → Free isPing β x → NoPingUnderWay β → Same β (afterCall β x)
 unfolding afterCall withRun
