@@ -1,13 +1,41 @@
 //! The functions of the Rattle crate `exports`, each behind a safe one. None has a `requires`; a slice passes as a pointer and a length.
+//! A function that can refuse returns 0 or the number of the refusal, and after a refusal the lent output is as it was.
 
 #[link(name = "exports", kind = "static")]
 extern "C" {
     fn ftm_crc(bytes: *const u8, length: usize) -> u8;
     fn ftm_read_command(words: *const u16, length: usize) -> u8;
-    fn ftm_commands(words: *const u16, length: usize, count: u64) -> u64;
-    fn ftm_pass(words: *const u16, length: usize, items: *const u8, items_length: usize) -> u64;
-    fn ftm_replies(words: *const u16, length: usize, items: *const u8, items_length: usize) -> u64;
-    fn ftm_time_ups(words: *const u16, length: usize, crates: *const u8, count: usize) -> u64;
+    fn ftm_commands(
+        words: *const u16,
+        length: usize,
+        count: u64,
+        accepted: *mut u64,
+        accepted_length: usize,
+    ) -> u8;
+    fn ftm_pass(
+        words: *const u16,
+        length: usize,
+        items: *const u8,
+        items_length: usize,
+        good: *mut u64,
+        good_length: usize,
+    ) -> u8;
+    fn ftm_replies(
+        words: *const u16,
+        length: usize,
+        items: *const u8,
+        items_length: usize,
+        good: *mut u64,
+        good_length: usize,
+    ) -> u8;
+    fn ftm_time_ups(
+        words: *const u16,
+        length: usize,
+        crates: *const u8,
+        count: usize,
+        served: *mut u64,
+        served_length: usize,
+    ) -> u8;
     fn ftm_clock_steps(
         words: *const u16,
         length: usize,
@@ -15,10 +43,30 @@ extern "C" {
         count: usize,
         out: *mut u64,
         out_length: usize,
-    ) -> u64;
-    fn ftm_triggers(words: *const u16, length: usize, out: *mut u8, out_length: usize) -> u64;
-    fn ftm_packets(bytes: *const u8, length: usize) -> u64;
+    ) -> u8;
+    fn ftm_triggers(
+        words: *const u16,
+        length: usize,
+        count: usize,
+        packets: *mut u8,
+        packets_length: usize,
+        number: *mut u64,
+        number_length: usize,
+    ) -> u8;
+    fn ftm_packets(bytes: *const u8, length: usize, good: *mut u64, good_length: usize) -> u8;
     fn ftm_static(block: *const u16, length: usize, out: *mut u16, out_length: usize) -> u8;
+}
+
+/// A count, or the number of the refusal.
+pub type Counted = Result<u64, u8>;
+
+/// Lends a call one number, for its count.
+fn counted(call: impl FnOnce(*mut u64, usize) -> u8) -> Counted {
+    let mut count = 0;
+    match call(&mut count, 1) {
+        0 => Ok(count),
+        refusal => Err(refusal),
+    }
 }
 
 pub fn crc(bytes: &[u8]) -> u8 {
@@ -29,34 +77,47 @@ pub fn read_command(words: &[u16]) -> u8 {
     unsafe { ftm_read_command(words.as_ptr(), words.len()) }
 }
 
-pub fn commands(words: &[u16], count: u64) -> u64 {
-    unsafe { ftm_commands(words.as_ptr(), words.len(), count) }
+pub fn commands(words: &[u16], count: u64) -> Counted {
+    let (words, length) = (words.as_ptr(), words.len());
+    counted(|accepted, room| unsafe { ftm_commands(words, length, count, accepted, room) })
 }
 
-pub fn pass(words: &[u16], items: &[u8]) -> u64 {
-    unsafe { ftm_pass(words.as_ptr(), words.len(), items.as_ptr(), items.len()) }
+pub fn pass(words: &[u16], items: &[u8]) -> Counted {
+    let (words, length) = (words.as_ptr(), words.len());
+    let (items, size) = (items.as_ptr(), items.len());
+    counted(|good, room| unsafe { ftm_pass(words, length, items, size, good, room) })
 }
 
-pub fn replies(words: &[u16], items: &[u8]) -> u64 {
-    unsafe { ftm_replies(words.as_ptr(), words.len(), items.as_ptr(), items.len()) }
+pub fn replies(words: &[u16], items: &[u8]) -> Counted {
+    let (words, length) = (words.as_ptr(), words.len());
+    let (items, size) = (items.as_ptr(), items.len());
+    counted(|good, room| unsafe { ftm_replies(words, length, items, size, good, room) })
 }
 
-pub fn time_ups(words: &[u16], crates: &[u8]) -> u64 {
-    unsafe { ftm_time_ups(words.as_ptr(), words.len(), crates.as_ptr(), crates.len()) }
+pub fn time_ups(words: &[u16], crates: &[u8]) -> Counted {
+    let (words, length) = (words.as_ptr(), words.len());
+    let (crates, count) = (crates.as_ptr(), crates.len());
+    counted(|served, room| unsafe { ftm_time_ups(words, length, crates, count, served, room) })
 }
 
-pub fn clock_steps(words: &[u16], ticks: &[u32], out: &mut [u64]) -> u64 {
+/// The timestamps after the steps, then the on-time.
+pub fn clock_steps(words: &[u16], ticks: &[u32], out: &mut [u64]) -> u8 {
     let (words, length) = (words.as_ptr(), words.len());
     let (steps, count) = (ticks.as_ptr(), ticks.len());
     unsafe { ftm_clock_steps(words, length, steps, count, out.as_mut_ptr(), out.len()) }
 }
 
-pub fn triggers(words: &[u16], out: &mut [u8]) -> u64 {
-    unsafe { ftm_triggers(words.as_ptr(), words.len(), out.as_mut_ptr(), out.len()) }
+pub fn triggers(words: &[u16], count: usize, packets: &mut [u8]) -> Counted {
+    let (words, length) = (words.as_ptr(), words.len());
+    let (packets, size) = (packets.as_mut_ptr(), packets.len());
+    counted(|number, room| unsafe {
+        ftm_triggers(words, length, count, packets, size, number, room)
+    })
 }
 
-pub fn packets(bytes: &[u8]) -> u64 {
-    unsafe { ftm_packets(bytes.as_ptr(), bytes.len()) }
+pub fn packets(bytes: &[u8]) -> Counted {
+    let (bytes, length) = (bytes.as_ptr(), bytes.len());
+    counted(|good, room| unsafe { ftm_packets(bytes, length, good, room) })
 }
 
 pub fn static_block(block: &[u16], out: &mut [u16]) -> u8 {

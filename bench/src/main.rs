@@ -9,7 +9,9 @@ use std::time::Instant;
 use reference::blocks::{self, Header, Kind};
 use reference::board::{Board, Outcome};
 use reference::packets::{self, Trigger};
-use reference::{commands, crc::crc8, frames};
+use reference::{commands, crc::crc8, frames, Refusal};
+
+use exports::Counted;
 
 /// Bytes of an item of a pass: a crate's number and a reply.
 const ITEM: usize = 29;
@@ -22,11 +24,13 @@ mod plain {
         commands::read(words).map_or_else(|refusal| refusal.number(), |_| 0)
     }
 
-    /// A fresh board that obeys commands of the words one after another, and how many it accepts.
-    fn obeyed(words: &[u16], count: u64) -> (Board, u64) {
-        let mut board = Board::power_up(0, 0).expect("0 is below 2^57");
-        let mut at = 0;
-        let mut accepted = 0;
+    fn fresh() -> Board {
+        Board::power_up(0, 0).expect("0 is below 2^57")
+    }
+
+    /// How many of so many commands a fresh board accepts, one after another.
+    pub fn commands(words: &[u16], count: u64) -> Counted {
+        let (mut board, mut at, mut accepted) = (fresh(), 0, 0);
         for _ in 0..count {
             match board.obey(&words[at..]) {
                 Ok((_, used)) => {
@@ -36,15 +40,31 @@ mod plain {
                 Err(refused) => at += refused.used,
             }
         }
-        (board, accepted)
+        Ok(accepted)
     }
 
-    pub fn commands(words: &[u16], count: u64) -> u64 {
-        obeyed(words, count).1
+    /// A fresh board that obeyed so many commands, or the number of the first refusal; and that of
+    /// another refusal, where that is lower.
+    fn begun(words: &[u16], count: u64, other: Option<Refusal>) -> Result<Board, u8> {
+        let (mut board, mut at, mut first) = (fresh(), 0, None);
+        for _ in 0..count {
+            match board.obey(&words[at..]) {
+                Ok((_, used)) => at += used,
+                Err(refused) => {
+                    at += refused.used;
+                    first = first.or(Some(refused.refusal));
+                }
+            }
+        }
+        match [first, other].into_iter().flatten().map(Refusal::number).min() {
+            None => Ok(board),
+            Some(number) => Err(number),
+        }
     }
 
-    pub fn pass(words: &[u16], items: &[u8]) -> u64 {
-        let (mut board, _) = obeyed(words, 1);
+    pub fn pass(words: &[u16], items: &[u8]) -> Counted {
+        let left_over = (items.len() % ITEM != 0).then_some(Refusal::WrongLength);
+        let mut board = begun(words, 1, left_over)?;
         let mut good = 0;
         for item in items.chunks_exact(ITEM) {
             if board.reply(item[0], &item[1..]).is_ok_and(|answer| answer.outcome == Outcome::Good)
@@ -52,42 +72,54 @@ mod plain {
                 good += 1;
             }
         }
-        good
+        Ok(good)
     }
 
-    pub fn time_ups(words: &[u16], crates: &[u8]) -> u64 {
-        let (mut board, _) = obeyed(words, 1);
-        crates.iter().filter(|&&crate_number| board.time_up(crate_number).is_ok()).count() as u64
+    pub fn time_ups(words: &[u16], crates: &[u8]) -> Counted {
+        let mut board = begun(words, 1, None)?;
+        let served = crates.iter().filter(|&&crate_number| board.time_up(crate_number).is_ok());
+        Ok(served.count() as u64)
     }
 
-    /// The timestamps after clock steps, and the on-time then, out of a dynamic block.
-    pub fn clock_steps(words: &[u16], ticks: &[u32], out: &mut [u64]) -> u64 {
-        let (mut board, _) = obeyed(words, 2);
-        for (&step, timestamp) in ticks.iter().zip(out) {
+    /// The timestamps after clock steps, then the on-time, out of a dynamic block.
+    pub fn clock_steps(words: &[u16], ticks: &[u32], out: &mut [u64]) -> u8 {
+        let short = (out.len() <= ticks.len()).then_some(Refusal::OutputTooShort);
+        let mut board = match begun(words, 2, short) {
+            Ok(board) => board,
+            Err(refusal) => return refusal,
+        };
+        for (&step, timestamp) in ticks.iter().zip(&mut *out) {
             board.clock(step);
             *timestamp = board.header().timestamp;
         }
         let mut block = [0; 498];
         board.dynamic_block(&[0; 484], &mut block).expect("a dynamic block has 498 words");
-        block[11..14].iter().fold(0, |on_time, &word| on_time << 16 | u64::from(word))
+        out[ticks.len()] =
+            block[11..14].iter().fold(0, |on_time, &word| on_time << 16 | u64::from(word));
+        0
     }
 
-    pub fn triggers(words: &[u16], out: &mut [u8]) -> u64 {
-        let (mut board, _) = obeyed(words, 2);
+    pub fn triggers(words: &[u16], count: usize, out: &mut [u8]) -> Counted {
+        let short = (out.len() / packets::BYTES < count).then_some(Refusal::OutputTooShort);
+        let mut board = begun(words, 2, short)?;
         let trigger = Trigger { n: 4, ..Trigger::default() };
         let mut given = 0;
-        for packet in out.chunks_exact_mut(packets::BYTES) {
+        for packet in out.chunks_exact_mut(packets::BYTES).take(count) {
             if board.trigger(&trigger, packet).is_err() {
                 break;
             }
             given += 1;
         }
-        given
+        Ok(given)
     }
 
-    pub fn packets(bytes: &[u8]) -> u64 {
-        bytes.chunks_exact(packets::BYTES).filter(|packet| packets::read(packet).is_ok()).count()
-            as u64
+    pub fn packets(bytes: &[u8]) -> Counted {
+        if bytes.len() % packets::BYTES != 0 {
+            return Err(Refusal::PacketLength.number());
+        }
+        let good =
+            bytes.chunks_exact(packets::BYTES).filter(|packet| packets::read(packet).is_ok());
+        Ok(good.count() as u64)
     }
 
     pub fn static_block(block: &[u16], out: &mut [u16]) -> u8 {
@@ -168,6 +200,7 @@ fn write_command() -> Vec<u16> {
 }
 
 const READ: [u16; 5] = [0x0040, 0x0001, 0x0001, 0, 0];
+const STOP: [u16; 5] = [0x0040, 0x0008, 0x0000, 0, 0];
 const PING: [u16; 5] = [0x0040, 0x0010, 0x0000, 0, 0];
 
 /// A write with no board active, so that the start after it is accepted at once.
@@ -192,7 +225,7 @@ fn formats(write: &[u16]) {
         row(what, times(2000, proved, || plain::read_command(black_box(words))));
     }
     let (mut sent, stored) = (vec![0; 7000], &write[5..]);
-    exports::triggers(&run_commands(), &mut sent);
+    exports::triggers(&run_commands(), 1000, &mut sent).expect("room for 1,000 packets");
     let proved = || exports::packets(black_box(&sent));
     row("1,000 packets read", times(20, proved, || plain::packets(black_box(&sent))));
     let (mut block, mut other) = (vec![0; 447], vec![0; 447]);
@@ -213,8 +246,8 @@ fn series(write: &[u16], writes: &[u8], pings: &[u8]) {
     }
     let run = run_commands();
     let (mut sent, mut again) = (vec![0; 7000], vec![0; 7000]);
-    let proved = || exports::triggers(black_box(&run), black_box(&mut sent));
-    let reference = || plain::triggers(black_box(&run), black_box(&mut again));
+    let proved = || exports::triggers(black_box(&run), 1000, black_box(&mut sent));
+    let reference = || plain::triggers(black_box(&run), 1000, black_box(&mut again));
     row("1,000 triggers, from power-up", times(20, proved, reference));
     assert_eq!(sent, again);
 }
@@ -238,7 +271,7 @@ fn single_calls(write: &[u16], writes: &[u8], pings: &[u8]) {
     let run = run_commands();
     let ticks: Vec<u32> = (0..1000).collect();
     let [whole, before] = [&ticks[..], &[]].map(|ticks| {
-        let (mut steps, mut again) = (vec![0; ticks.len()], vec![0; ticks.len()]);
+        let (mut steps, mut again) = (vec![0; ticks.len() + 1], vec![0; ticks.len() + 1]);
         let proved = || exports::clock_steps(black_box(&run), black_box(ticks), &mut steps);
         let plain = || plain::clock_steps(black_box(&run), black_box(ticks), &mut again);
         let best = times(50, proved, plain);
@@ -248,8 +281,8 @@ fn single_calls(write: &[u16], writes: &[u8], pings: &[u8]) {
     single("a clock step", ticks.len(), whole, before);
     let [whole, before] = [1000, 0].map(|count| {
         let (mut sent, mut again) = (vec![0; 7 * count], vec![0; 7 * count]);
-        let proved = || exports::triggers(black_box(&run), black_box(&mut sent));
-        times(20, proved, || plain::triggers(black_box(&run), black_box(&mut again)))
+        let proved = || exports::triggers(black_box(&run), count, black_box(&mut sent));
+        times(20, proved, || plain::triggers(black_box(&run), count, black_box(&mut again)))
     });
     single("a trigger", 1000, whole, before);
     for (what, words, calls) in [
@@ -265,8 +298,31 @@ fn single_calls(write: &[u16], writes: &[u8], pings: &[u8]) {
     }
 }
 
+/// Both refuse alike, and leave what was lent as it was.
+fn refusals(write: &[u16]) {
+    let (stop, twice) = (&STOP[..], [&READ[..], &STOP[..]].concat());
+    for (words, items) in [(stop, 29), (stop, 28), (&write[..440], 30), (write, 30), (&PING, 28)] {
+        let items = vec![0; items];
+        assert!(exports::pass(words, &items).is_err());
+        assert_eq!(exports::pass(words, &items), plain::pass(words, &items));
+        assert_eq!(exports::replies(words, &items), plain::pass(words, &items));
+        assert_eq!(exports::time_ups(words, &items), plain::time_ups(words, &items));
+    }
+    assert_eq!((exports::packets(&[0; 8]), plain::packets(&[0; 8])), (Err(13), Err(13)));
+    let run = run_commands();
+    for (words, room, refusal) in [(&run[..], 3, 19), (&twice, 4, 9), (stop, 3, 9)] {
+        let (mut numbers, mut packets) = (vec![5; room], vec![5; 7 * room]);
+        assert_eq!(exports::clock_steps(words, &[1; 3], &mut numbers), refusal);
+        assert_eq!(plain::clock_steps(words, &[1; 3], &mut numbers), refusal);
+        assert_eq!(exports::triggers(words, 4, &mut packets), Err(refusal));
+        assert_eq!(plain::triggers(words, 4, &mut packets), Err(refusal));
+        assert_eq!((numbers, packets), (vec![5; room], vec![5; 7 * room]));
+    }
+}
+
 fn main() {
     let write = write_command();
+    refusals(&write);
     let (writes, pings) = (good_items(&write), good_items(&PING));
     println!("| on the same input | proved, ns | Rust, ns | ratio |\n|---|---|---|---|");
     formats(&write);

@@ -1,14 +1,22 @@
 -- The blocks that a board sends: when the FTU list and a failure record are refused.
 -- Assumes nothing.
 use Prim.Native.Nat.{ℕ}
-use mathlib.Core.Path.{_≡_, refl, _∙_}
+use mathlib.Core.Path.{_≡_, refl, sym, ap, _∙_}
 use mathlib.Core.Bool.{true, false}
-use borrow.Author.Tests.{eq-eqb, ne-eqb}
-use Rattle.refusals.specs.Tables.{refused, lowest}
-use Rattle.refusals.proofs.Tables.{Clear}
-use Rattle.four_crates.specs.FourCrates.{inPass, recordAt}
-use Rattle.four_crates.proofs.Records.{record-coded}
-use Rattle.board.specs.SentOut.{listRules, failureRules}
+use mathlib.Core.List.{List, [], _∷_, _++_}
+use Rattle.refusals.specs.Refusals.{numberOf, placeOf}
+use Rattle.refusals.specs.Tables.{given, refused, lowest, onPaper}
+use Rattle.refusals.specs.Writing.{Wrote}
+use Rattle.refusals.specs.declared.Refusal.{Refusal}
+use Rattle.refusals.specs.declared.Written.{Written}
+use Rattle.refusals.specs.declared.Written.the-variants.{Refused}
+use Rattle.refusals.proofs.Tables.{Clear, given-clear, given-same, refused-any}
+use Rattle.refusals.proofs.Writing.{wrote-refused, wrote-under}
+use Rattle.blocks.specs.Blocks.{headerWords, failureBody}
+use Rattle.blocks.specs.declared.Header.{Header}
+use Rattle.four_crates.specs.FourCrates.{inPass, recordAt, noSuchRecord, recordAnswer}
+use Rattle.four_crates.specs.declared.Failure.{Failure}
+use Rattle.board.specs.SentOut.{headerOf, listRules, failureRules, failedFrame, failureDue}
 use Rattle.board.specs.declared.Board.{Board}
 
 module _ (β : Board) where
@@ -22,8 +30,23 @@ module _ (β : Board) where
     pub failure-9 : inPass (β .crates) ≡ true → lowest {A = ℕ} (failureRules β n) 0 ≡ refused 9 0
     failure-9 e = rw e refl
 
-    pub failure-18 : inPass (β .crates) ≡ false → recordAt (β .crates) n .code ≡ 0 → lowest {A = ℕ} (failureRules β n) 0 ≡ refused 18 0
-    failure-18 e z = rw (e, record-coded (β .crates) n, eq-eqb _ _ z) refl
+    module _ (e : inPass (β .crates) ≡ false) where
+      -- there is no such record
+      pub failure-refused : (r : Refusal) → onPaper r ≡ recordAnswer (β .crates) n → (out : List ℕ)
+          → Wrote (failureRules β n) (failureDue β n) out (Refused r) out
+      unfolding recordAnswer
+      failure-refused r q out =
+          let rows = noSuchRecord (β .crates) n ∷ [] in
+          wrote-refused (failureRules β n) (failureDue β n) out r (rw e (refused-any rows _ 0 (numberOf r) (placeOf r) (sym q)))
 
-    pub failure-clear : inPass (β .crates) ≡ false → (recordAt (β .crates) n .code ≡ 0 → ⊥) → Clear (failureRules β n)
-    failure-clear e z = (e, (record-coded (β .crates) n ∙ ne-eqb _ _ z, tt))
+      -- the message of the record f is written under the rows 9 and 18, neither of which applies
+      pub failure-found : (f : Failure) → given f ≡ recordAnswer (β .crates) n → (h : Header) → h ≡ headerOf β
+          → (frame out after : List ℕ) (r : Written) → frame ≡ failedFrame β f
+          → Wrote [] (headerWords h ++ failureBody 3 frame) out r after
+          → Wrote (failureRules β n) (failureDue β n) out r after
+      unfolding recordAnswer
+      failure-found f q h eh frame out after r ef w =
+          let rows = noSuchRecord (β .crates) n ∷ [] in
+          let same : f ≡ recordAt (β .crates) n = sym (given-same rows _ f (sym q)) in
+          wrote-under (failureRules β n) (failureDue β n) out r after (e, given-clear rows _ f (sym q))
+          (rw (eh, ef ∙ ap (failedFrame β) same) at w)

@@ -1,15 +1,13 @@
 -- 01, Blocks sent out: the four blocks that a board sends.
 use Prim.Native.Nat.{ℕ, _/_, _%_}
 use mathlib.Core.List.{List, [], _∷_, _++_}
-use lib.Dec.{leb}
-use lib.ListN.{length}
 use Rattle.refusals.specs.Tables.{Rule, rule}
 use Rattle.blocks.specs.Blocks.{headerWords, dynamicBody, failureBody}
 use Rattle.blocks.specs.declared.Header.{Header}
 use Rattle.ftu_list.specs.List.{listBody}
 use Rattle.ftu_list.specs.declared.FtuList.{FtuList}
 use Rattle.steps.specs.Steps.{stepFrame}
-use Rattle.four_crates.specs.FourCrates.{inPass, entriesOf, records, recordAt}
+use Rattle.four_crates.specs.FourCrates.{inPass, entriesOf, recordAt, noSuchRecord}
 use Rattle.four_crates.specs.declared.Failure.{Failure}
 use Rattle.board.specs.declared.Board.{Board}
 
@@ -42,9 +40,9 @@ listOf β = record { active = β .active; entries = entriesOf (β .crates) }
 abbrev pub listDue : Board → List ℕ
 listDue β = headerWords (headerOf β) ++ listBody (listOf β)
 
--- "18: no failure record of that ordinal"
+-- 9 in the same way, then 18
 abbrev pub failureRules : Board → ℕ → List Rule
-failureRules β n = rule 9 (inPass (β .crates)) ∷ rule 18 (leb (length (records (β .crates))) n) ∷ []
+failureRules β n = rule 9 (inPass (β .crates)) ∷ noSuchRecord (β .crates) n ∷ []
 
 -- the frame that failed. The stored block is still the one that it was made from: a write, which alone changes it, clears the records
 abbrev pub failedFrame : Board → Failure → List ℕ

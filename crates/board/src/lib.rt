@@ -30,6 +30,7 @@ use crate_pass::ReplyAnswer;
 use crate_pass::crate_at_power_up;
 use four_crates::FramesSent;
 use four_crates::Outstanding;
+use four_crates::RecordFound;
 use four_crates::begin_all;
 use four_crates::entries_of;
 use four_crates::in_pass;
@@ -451,11 +452,14 @@ impl Board {
         if in_pass(crates) {
             return Written::Refused(Refusal::NotAcceptedNow);
         }
-        let record = record_at(crates, ordinal);
-        if record.code == 0 {
-            return Written::Refused(Refusal::NoSuchRecord);
+        match record_at(crates, ordinal) {
+            RecordFound::Record(f) => write_failure(
+                self.header(),
+                3,
+                step_frame(&block, f.k / 10, f.k % 10, f.code),
+                out,
+            ),
+            RecordFound::Refused(r) => Written::Refused(r),
         }
-        let frame = step_frame(&block, record.k / 10, record.k % 10, record.code);
-        write_failure(self.header(), 3, frame, out)
     }
 }

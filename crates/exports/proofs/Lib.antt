@@ -1,4 +1,5 @@
 -- Laws that belong to no one function.
+pub mod Refusing
 pub mod Packets
 pub mod Replies
 pub mod TimeUps

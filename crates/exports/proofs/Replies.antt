@@ -108,11 +108,11 @@ reply-end n i β items good total h inv =
     omega arith
 
 -- the board after one command
-module _ (w : List ℕ) (o : AfterCommands) (obeyed : ObeysAll 1 w o) where
-  pub pass-is : (items : List ℕ) (r : ℕ) → CountsGood (o .board .block) (o .board .kind) (o .board .crates) items r → r ≡ passOf w items
-  unfolding passOf holding
-  pass-is items r g = g (o .board) ∙ ap (λ (β : Board). goodOf (length items / 29) β items) (obeyed .board)
-
-  pub replies-start : (items : List ℕ) → 0 + goodOf (length items / 29 - 0) (o .board) items ≡ passOf w items
+module _ (w : List ℕ) (b : AfterCommands) (obeyed : ObeysAll 1 w b) where
+  pub pass-on-board : (items : List ℕ) (r : ℕ) → r ≡ goodOf (length items / 29) (b .board) items → r ≡ passOf w items
   unfolding passOf
-  replies-start items = reply-start (length items / 29) (o .board) items ∙ ap (λ (β : Board). goodOf (length items / 29) β items) (obeyed .board)
+  pass-on-board items r e = e ∙ ap (λ (β : Board). goodOf (length items / 29) β items) (obeyed .board)
+
+  pub pass-on-crates : (items : List ℕ) (r : ℕ) → CountsGood (b .board .block) (b .board .kind) (b .board .crates) items r → r ≡ passOf w items
+  unfolding holding
+  pass-on-crates items r g = pass-on-board items r (g (b .board))

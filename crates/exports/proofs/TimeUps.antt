@@ -11,11 +11,13 @@ use Rattle.crate_pass.specs.Crate.{replyOnPaper}
 use Rattle.board.specs.SlowControl.{replyAnswer, boardReplied, Replies}
 use Rattle.board.specs.declared.Board.{Board}
 use Rattle.board.specs.declared.Replied.{Replied}
-use Rattle.exports.specs.Exports.{isGiven, servedOf}
+use Rattle.exports.specs.Exports.{isGiven, afterOne, servedOf}
+use Rattle.exports.specs.Parts.{ObeysAll}
+use Rattle.exports.specs.declared.AfterCommands.{AfterCommands}
 use Rattle.exports.proofs.Packets.{next-of}
 
-pub time-up-start : (crates : List ℕ) (β first : Board) → β ≡ first → 0 + servedOf β crates ≡ servedOf first crates
-time-up-start crates β first e = zero-add (servedOf β crates) ∙ ap (λ (b : Board). servedOf b crates) e
+pub time-up-start : (crates : List ℕ) (β : Board) → 0 + servedOf β crates ≡ servedOf β crates
+time-up-start crates β = zero-add (servedOf β crates)
 
 -- `served` of the first i were served, and left the board β
 module _ (crates : List ℕ) (i : ℕ) (β : Board) (served total : ℕ) (inv : served + servedOf β (drop i crates) ≡ total) where
@@ -34,3 +36,7 @@ module _ (crates : List ℕ) (i : ℕ) (β : Board) (served total : ℕ) (inv : 
   pub time-up-end : length crates ≤ i → served ≡ total
   unfolding servedOf
   time-up-end h = let z = ap (servedOf β) (drop-of-length-le crates {i = i} h) in omega arith
+
+-- after one command
+pub served-after : (w : List ℕ) (b : AfterCommands) → ObeysAll 1 w b → (crates : List ℕ) (r : ℕ) → r ≡ servedOf (b .board) crates → r ≡ servedOf (afterOne w) crates
+served-after w b obeyed crates r e = e ∙ ap (λ (β : Board). servedOf β crates) (obeyed .board)

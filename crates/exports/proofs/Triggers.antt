@@ -19,7 +19,9 @@ use Rattle.board.specs.State.{withRun}
 use Rattle.board.specs.Commands.{TriggersOn}
 use Rattle.board.specs.declared.Board.{Board}
 use Rattle.board.specs.declared.TriggeredOn.{TriggeredOn}
-use Rattle.exports.specs.Exports.{four, packetThen, packetsOf, GivesTriggers}
+use Rattle.exports.specs.Exports.{four, packetThen, packetsOf, afterTwo}
+use Rattle.exports.specs.Parts.{ObeysAll, LaysPackets}
+use Rattle.exports.specs.declared.AfterCommands.{AfterCommands}
 use Rattle.exports.proofs.Packets.{past, one-left}
 use Rattle.words.proofs.Laws.{part-rest}
 
@@ -112,28 +114,27 @@ pub none-given : (first r : Run) (n : ℕ) (out : List ℕ) → r ≡ first → 
 none-given first r n out q = record { same = refl; all = ap₂ packetsOf (let e : n ≡ n - 0 = omega arith in e) (sym q); rest = refl }
 
 -- and no more are
-all-given : (first : Run) (n i : ℕ) (out₀ out : List ℕ) (r : Run) → TriggersSoFar first n i out₀ out r → n ≡ length out₀ / 7 → i ≤ n
-    → packetsOf (n - i) r ≡ [] → GivesTriggers first out₀ i out
+all-given : (first : Run) (n i : ℕ) (out₀ out : List ℕ) (r : Run) → TriggersSoFar first n i out₀ out r → 7 * n ≤ length out₀ → i ≤ n
+    → packetsOf (n - i) r ≡ [] → LaysPackets first n out₀ i out
 all-given first n i out₀ out r g en m e =
     let same = g .same in
-    let all : packetsOf (length out₀ / 7) first ≡ take (7 * i) out =
-    ap (λ (k : ℕ). packetsOf k first) (sym en) ∙ g .all ∙ ap (λ (l : List ℕ). take (7 * i) out ++ l) e ∙ append-nil (take (7 * i) out) in
-    let size : length (packetsOf (length out₀ / 7) first) ≡ 7 * i = ap length all ∙ length-take-le (7 * i) out (omega arith) in
+    let all : packetsOf n first ≡ take (7 * i) out = g .all ∙ ap (λ (l : List ℕ). take (7 * i) out ++ l) e ∙ append-nil (take (7 * i) out) in
+    let size : length (packetsOf n first) ≡ 7 * i = ap length all ∙ length-take-le (7 * i) out (omega arith) in
     record {
       number = omega arith;
       packets =
           sym (take-append-drop (7 * i) out)
           ∙ ap (λ (l : List ℕ). take (7 * i) out ++ l) (g .rest)
           ∙ ap (λ (k : ℕ). take (7 * i) out ++ drop k out₀) (sym size)
-          ∙ ap (λ (l : List ℕ). l ++ drop (length (packetsOf (length out₀ / 7) first)) out₀) (sym all);
+          ∙ ap (λ (l : List ℕ). l ++ drop (length (packetsOf n first)) out₀) (sym all);
     }
 
-pub at-end : (first : Run) (n i : ℕ) (out₀ out : List ℕ) (r : Run) → TriggersSoFar first n i out₀ out r → n ≡ length out₀ / 7 → i ≤ n
-    → n ≤ i → GivesTriggers first out₀ i out
+pub at-end : (first : Run) (n i : ℕ) (out₀ out : List ℕ) (r : Run) → TriggersSoFar first n i out₀ out r → 7 * n ≤ length out₀ → i ≤ n
+    → n ≤ i → LaysPackets first n out₀ i out
 unfolding packetsOf
 at-end first n i out₀ out r g en l m = all-given first n i out₀ out r g en l (ap (λ (k : ℕ). packetsOf k r) (let e : n - i ≡ 0 = omega arith in e))
 
-module _ (first : Run) (n i : ℕ) (out₀ out : List ℕ) (β : Board) (g : TriggersSoFar first n i out₀ out (β .run)) (en : n ≡ length out₀ / 7) (l : i < n)
+module _ (first : Run) (n i : ℕ) (out₀ out : List ℕ) (β : Board) (g : TriggersSoFar first n i out₀ out (β .run)) (en : 7 * n ≤ length out₀) (l : i < n)
     (t : TriggeredOn) (after : List ℕ) (s : TriggersOn β four (take (length out - 7 * i) (drop (7 * i) out)) t after) where
   abbrev part : List ℕ
   part = drop (7 * i) out
@@ -170,7 +171,7 @@ module _ (first : Run) (n i : ℕ) (out₀ out : List ℕ) (β : Board) (g : Tri
         rest = ap (drop (7 * (i + 1))) whole ∙ put-drop out p (7 * i) (7 * (i + 1)) size fits ∙ sym (past 7 i out) ∙ ap (drop 7) (g .rest) ∙ past 7 i out₀;
       }
 
-  pub one-refused : (f : Refusal) → t .answer ≡ Refused f → GivesTriggers first out₀ i changed
+  pub one-refused : (f : Refusal) → t .answer ≡ Refused f → LaysPackets first n out₀ i changed
   one-refused f e =
       let whole : changed ≡ out =
       back out after (7 * i)
@@ -179,3 +180,8 @@ module _ (first : Run) (n i : ℕ) (out₀ out : List ℕ) (β : Board) (g : Tri
       let none : packetsOf (n - i) (β .run) ≡ [] =
       ap (λ (m : ℕ). packetsOf m (β .run)) (one-left n i l) ∙ refused-packets β (n - (i + 1)) part t after served room-left f e in
       rw whole (all-given first n i out₀ out (β .run) g en (omega arith) none)
+
+-- after two commands
+pub laid-on : (w : List ℕ) (b : AfterCommands) → ObeysAll 2 w b → (count : ℕ) (out : List ℕ) (n : ℕ) (after : List ℕ)
+    → LaysPackets (b .board .run) count out n after → LaysPackets (afterTwo w .run) count out n after
+laid-on w b obeyed count out n after l = rw (obeyed .board) at l

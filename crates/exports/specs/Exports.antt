@@ -1,8 +1,9 @@
 -- What the exported functions give, in the terms of the board.
-use Prim.Native.Nat.{ℕ, zero, suc, _+_, _/_}
+use Prim.Native.Nat.{ℕ, zero, suc, _+_, _*_, _/_, _%_}
 use mathlib.Core.Path.{_≡_}
-use mathlib.Core.Bool.{false}
+use mathlib.Core.Bool.{Bool, false, cond}
 use mathlib.Core.List.{List, [], _∷_, _++_}
+use lib.Dec.{eqb, ltb}
 use lib.ListN.{length, getD, take, drop, replicate}
 use Rattle.refusals.specs.Tables.{Answer, given, refused, lowest}
 use Rattle.refusals.specs.Writing.{writing, laid}
@@ -35,6 +36,37 @@ abbrev pub isGiven : {A : Type 0} → Answer A → ℕ
 isGiven (given a) = 1
 isGiven (refused n p) = 0
 
+-- ---- what a call refuses, and what it leaves. 0 stands for no refusal
+
+-- "Where several apply, the lowest is given": the lower of two numbers of refusals
+unfoldable pub lowerOf : ℕ → ℕ → ℕ
+lowerOf m n = cond (eqb m 0) n (cond (eqb n 0) m (cond (ltb n m) n m))
+
+-- and of commands one after another, the first of two
+unfoldable pub firstOf : ℕ → ℕ → ℕ
+firstOf m n = cond (eqb m 0) n m
+
+-- a number where something is left over after parts of a size
+unfoldable pub leftOver : ℕ → ℕ → ℕ → ℕ
+leftOver number size n = cond (eqb (n % size) 0) 0 number
+
+-- "19: lent output shorter than what is due"
+unfoldable pub noRoom : ℕ → ℕ → ℕ
+noRoom due n = cond (ltb n due) 19 0
+
+-- what the lent output then holds: what is due, then what stood there; after a refusal, what stood there
+unfoldable pub holds : ℕ → List ℕ → List ℕ → List ℕ
+holds refusal due out = cond (eqb refusal 0) (due ++ drop (length due) out) out
+
+-- a call with this refusal, to which `due` is due, returned r, and the output `out` became `after`
+pub record Gives (refusal : ℕ) (due out : List ℕ) (r : ℕ) (after : List ℕ) : Type 0 where
+  pub answer : r ≡ refusal
+  pub output : after ≡ holds refusal due out
+
+-- a call that counts: the count is the first of the lent numbers
+abbrev pub GivesCount : ℕ → ℕ → List ℕ → ℕ → List ℕ → Type 0
+GivesCount refusal n out r after = Gives (lowerOf refusal (noRoom 1 (length out))) (n ∷ []) out r after
+
 -- what reading a command gives
 unfoldable pub commandGiven : List ℕ → ℕ
 commandGiven w = answerNumber (commandAnswer w)
@@ -54,6 +86,15 @@ afterCommands (suc n) β w = afterCommands n (boardAfter β w) (wordsAfter w)
 unfoldable pub acceptedOf : ℕ → Board → List ℕ → ℕ
 acceptedOf zero β w = 0
 acceptedOf (suc n) β w = isGiven (boardAnswer β w) + acceptedOf n (boardAfter β w) (wordsAfter w)
+
+-- how many of n commands a fresh board accepts: none of them refuses the call
+abbrev pub CountsAccepted : ℕ → List ℕ → List ℕ → ℕ → List ℕ → Type 0
+CountsAccepted n w out r after = GivesCount 0 (acceptedOf n (freshBoard 0 0) w) out r after
+
+-- the number of the first of n commands that is refused
+unfoldable pub firstRefusal : ℕ → Board → List ℕ → ℕ
+firstRefusal zero β w = 0
+firstRefusal (suc n) β w = firstOf (answerNumber (boardAnswer β w)) (firstRefusal n (boardAfter β w) (wordsAfter w))
 
 -- a fresh board after one command, and after two
 abbrev pub afterOne : List ℕ → Board
@@ -85,10 +126,18 @@ goodOf (suc n) β items =
 unfoldable pub passOf : List ℕ → List ℕ → ℕ
 passOf w items = goodOf (length items / 29) (afterOne w) items
 
+-- the first command refuses the call where it is refused, and 6 says that the items are not of 29 bytes each
+abbrev pub CountsPass : List ℕ → List ℕ → List ℕ → ℕ → List ℕ → Type 0
+CountsPass w items out r after =
+    GivesCount (lowerOf (firstRefusal 1 (freshBoard 0 0) w) (leftOver 6 29 (length items))) (passOf w items) out r after
+
 -- how many time-ups are served, one after another on these crates
 unfoldable pub servedOf : Board → List ℕ → ℕ
 servedOf β [] = 0
 servedOf β (i ∷ is) = isGiven (replyAnswer β i silence) + servedOf (boardReplied β i silence) is
+
+abbrev pub CountsTimeUps : List ℕ → List ℕ → List ℕ → ℕ → List ℕ → Type 0
+CountsTimeUps w is out r after = GivesCount (firstRefusal 1 (freshBoard 0 0) w) (servedOf (afterOne w) is) out r after
 
 -- ---- clock steps
 
@@ -102,11 +151,13 @@ unfoldable pub timestampsOf : Board → List ℕ → List ℕ
 timestampsOf β [] = []
 timestampsOf β (t ∷ ts) = clockedRun (β .run) t .timestamp ∷ timestampsOf (withRun β (clockedRun (β .run) t)) ts
 
--- on a board β as many of the steps were made as the lent numbers `out` have room for: the timestamps after them stand there, and r is the
--- on-time
-pub record MakesSteps (β : Board) (ticks out : List ℕ) (r : ℕ) (after : List ℕ) : Type 0 where
-  pub onTime : r ≡ clockedAll β (take (length out) ticks) .run .«on_time»
-  pub timestamps : after ≡ timestampsOf β (take (length out) ticks) ++ drop (length (timestampsOf β (take (length out) ticks))) out
+-- after two commands: the timestamps, then the on-time
+unfoldable pub stepsOf : Board → List ℕ → List ℕ
+stepsOf β ts = timestampsOf β ts ++ (clockedAll β ts .run .«on_time» ∷ [])
+
+abbrev pub MakesSteps : List ℕ → List ℕ → List ℕ → ℕ → List ℕ → Type 0
+MakesSteps w ts out r after =
+    Gives (lowerOf (firstRefusal 2 (freshBoard 0 0) w) (noRoom (length ts + 1) (length out))) (stepsOf (afterTwo w) ts) out r after
 
 -- ---- triggers
 
@@ -125,11 +176,16 @@ unfoldable pub packetsOf : ℕ → Run → List ℕ
 packetsOf zero r = []
 packetsOf (suc m) r = packetThen (lowest (triggerRules r four) 7) (packetBytes (triggerNumber r) four) (packetsOf m (afterTrigger r))
 
--- `count` triggers were given on a run r, as many as the lent bytes `out` have room for packets, or as are not refused: these stand there one
--- after another
-pub record GivesTriggers (r : Run) (out : List ℕ) (count : ℕ) (after : List ℕ) : Type 0 where
-  pub number : count ≡ length (packetsOf (length out / 7) r) / 7
-  pub packets : after ≡ packetsOf (length out / 7) r ++ drop (length (packetsOf (length out / 7) r)) out
+-- after two commands: `count` triggers are asked for, so 7 times as many bytes are due
+unfoldable pub triggersRefusal : List ℕ → ℕ → List ℕ → List ℕ → ℕ
+triggersRefusal w count packets number =
+    lowerOf (lowerOf (firstRefusal 2 (freshBoard 0 0) w) (noRoom (7 * count) (length packets))) (noRoom 1 (length number))
+
+-- those that are given stand in the lent bytes `packets`, and how many they are in the lent numbers `number`. A trigger that is refused ends
+-- the series, and does not refuse the call
+pub record GivesTriggers (w : List ℕ) (count : ℕ) (packets number : List ℕ) (r : ℕ) (packets′ number′ : List ℕ) : Type 0 where
+  pub bytes : Gives (triggersRefusal w count packets number) (packetsOf count (afterTwo w .run)) packets r packets′
+  pub many : Gives (triggersRefusal w count packets number) (length (packetsOf count (afterTwo w .run)) / 7 ∷ []) number r number′
 
 -- ---- packets read
 
@@ -139,6 +195,10 @@ goodFrom (suc n) bytes = isGiven (packetAnswer (take 7 bytes)) + goodFrom n (dro
 
 unfoldable pub goodPackets : List ℕ → ℕ
 goodPackets bytes = goodFrom (length bytes / 7) bytes
+
+-- "13: packet is not 7 bytes", of what is left over
+abbrev pub CountsPackets : List ℕ → List ℕ → ℕ → List ℕ → Type 0
+CountsPackets bytes out r after = GivesCount (leftOver 13 7 (length bytes)) (goodPackets bytes) out r after
 
 -- ---- a static block, written and read back
 

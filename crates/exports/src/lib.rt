@@ -1,14 +1,17 @@
 // Functions for programs in C or Rust, over numbers and slices: each makes a fresh board of its own where it needs one.
+// A function that can refuse returns the number of the refusal, the lowest where several apply, and then leaves the lent output as it was;
+// else it returns 0, and what is due stands in front of the lent output. A number that it counts is the first of the lent numbers.
 ghost use mathlib.Core.Path.{_≡_};
-ghost use Prim.Native.Nat.{_≤_};
+ghost use Prim.Native.Nat.{_*_, _/_, _<_, _≤_};
+ghost use lib.ListN.{length};
 ghost use Rattle.crc.specs.Crc.{crc};
 ghost use Rattle.packets.specs.Packets.{packetAnswer};
 ghost use Rattle.crate_pass.specs.Crate.{replyOnPaper};
 ghost use Rattle.acceptance.specs.Acceptance.{answerOnPaper};
-ghost use Rattle.board.specs.State.{freshBoard};
-ghost use Rattle.exports.specs.Exports.{isGiven, commandGiven, acceptedOf, afterOne, afterTwo, goodOutcome, passOf, servedOf, MakesSteps};
-ghost use Rattle.exports.specs.Exports.{GivesTriggers, goodPackets, StaticRound};
-ghost use Rattle.exports.specs.Parts.{CountsGood, ObeysAll};
+ghost use Rattle.exports.specs.Exports.{answerNumber, isGiven, lowerOf, firstOf, leftOver, noRoom, commandGiven, CountsAccepted};
+ghost use Rattle.exports.specs.Exports.{goodOutcome, goodOf, CountsPass, servedOf, CountsTimeUps, MakesSteps, GivesTriggers};
+ghost use Rattle.exports.specs.Exports.{goodPackets, CountsPackets, StaticRound};
+ghost use Rattle.exports.specs.Parts.{ObeysAll, CountsGood, LaysPackets};
 use acceptance::CommandAnswer;
 use block_reader::BlockRead;
 use block_reader::Kind;
@@ -51,6 +54,34 @@ pub extern "C" fn ftm_read_command(words: &[u16]) -> u8
     }
 }
 
+// The lower of two refusals' numbers, of which 0 is none.
+fn lower_of(a: u8, b: u8) -> u8
+    ensures { λ r. ⌜ r ≡ lowerOf a b ⌝ }
+{
+    if a == 0 {
+        return b;
+    }
+    if b == 0 {
+        return a;
+    }
+    if b < a { b } else { a }
+}
+
+// A refusal's number where something is left over of a length after parts of a size, else 0.
+fn left_over(length: usize, size: usize, number: u8) -> u8
+    requires { ⌜ 0 < size ⌝ }
+    ensures { λ r. ⌜ r ≡ leftOver number size length ⌝ }
+{
+    if length % size == 0 { 0 } else { number }
+}
+
+// 19 where the lent output is shorter than what is due, else 0.
+fn no_room(due: usize, length: usize) -> u8
+    ensures { λ r. ⌜ r ≡ noRoom due length ⌝ }
+{
+    if length < due { 19 } else { 0 }
+}
+
 // Whether a command is accepted: 1, else 0.
 fn accepted_count(answer: CommandAnswer) -> u64
     ensures { λ r. ⌜ (r ≡ isGiven (answerOnPaper answer)) × (r ≤ 1) ⌝ }
@@ -61,10 +92,28 @@ fn accepted_count(answer: CommandAnswer) -> u64
     }
 }
 
-// A board after commands, and how many of them were accepted.
+// The number of the refusal of a command, 0 where it is accepted.
+fn command_refusal(answer: CommandAnswer) -> u8
+    ensures { λ r. ⌜ r ≡ answerNumber (answerOnPaper answer) ⌝ }
+{
+    match answer {
+        CommandAnswer::Obeyed(_) => 0,
+        CommandAnswer::Refused(r) => r.number(),
+    }
+}
+
+// The first of two refusals' numbers, of which 0 is none.
+fn first_of(a: u8, b: u8) -> u8
+    ensures { λ r. ⌜ r ≡ firstOf a b ⌝ }
+{
+    if a == 0 { b } else { a }
+}
+
+// A board after commands, how many of them were accepted, and the number of the first that was refused, 0 where none was.
 struct AfterCommands {
     board: Board,
     accepted: u64,
+    refusal: u8,
 }
 
 // A fresh board obeys `count` commands of the words, one after another.
@@ -74,6 +123,7 @@ fn obeyed(words: &[u16], count: u64) -> AfterCommands
     let up = power_up(0, 0);
     let mut board = up.board;
     let mut accepted = 0;
+    let mut refusal = 0;
     let mut at = 0;
     let mut i = 0;
     while i < count {
@@ -82,19 +132,29 @@ fn obeyed(words: &[u16], count: u64) -> AfterCommands
         let next = done.board;
         at += done.used;
         accepted += accepted_count(answer);
+        refusal = first_of(refusal, command_refusal(answer));
         board = next;
         i += 1;
     }
-    AfterCommands { board, accepted }
+    AfterCommands {
+        board,
+        accepted,
+        refusal,
+    }
 }
 
 // On a fresh board: how many of `count` commands of the words, one after another, are accepted.
 #[no_mangle]
-pub extern "C" fn ftm_commands(words: &[u16], count: u64) -> u64
-    ensures { λ r. ⌜ r ≡ acceptedOf count (freshBoard 0 0) (now (words .entry)) ⌝ }
+pub extern "C" fn ftm_commands(words: &[u16], count: u64, accepted: &mut [u64]) -> u8
+    ensures { λ r. ⌜ CountsAccepted count (now (words .entry)) (now (accepted .entry)) r (now (accepted .exit)) ⌝ }
 {
+    let refusal = no_room(1, accepted.len());
+    if refusal != 0 {
+        return refusal;
+    }
     let done = obeyed(words, count);
-    done.accepted
+    accepted[0] = done.accepted;
+    0
 }
 
 // Whether an answer is good: 1, else 0.
@@ -140,24 +200,28 @@ fn good_replies(first: [Crate; 4], block: &[u16], kind: PassKind, items: &[u8]) 
 // On a fresh board: obeys the first command of the words, then serves the items, 29 bytes each, a crate's number and a reply of 28
 // bytes. How many replies were good. (On the crates alone.)
 #[no_mangle]
-pub extern "C" fn ftm_pass(words: &[u16], items: &[u8]) -> u64
-    ensures { λ r. ⌜ r ≡ passOf (now (words .entry)) (now (items .entry)) ⌝ }
+pub extern "C" fn ftm_pass(words: &[u16], items: &[u8], good: &mut [u64]) -> u8
+    ensures { λ r. ⌜ CountsPass (now (words .entry)) (now (items .entry)) (now (good .entry)) r (now (good .exit)) ⌝ }
 {
     let done = obeyed(words, 1);
+    let own = lower_of(done.refusal, left_over(items.len(), 29, 6));
+    let refusal = lower_of(own, no_room(1, good.len()));
+    if refusal != 0 {
+        return refusal;
+    }
     let board = done.board;
     let crates = board.crates;
     let block = board.block;
     let kind = board.kind;
-    good_replies(crates, &block, kind, items)
+    good[0] = good_replies(crates, &block, kind, items);
+    0
 }
 
-// The same, each item by a call on the whole board.
-#[no_mangle]
-pub extern "C" fn ftm_replies(words: &[u16], items: &[u8]) -> u64
-    ensures { λ r. ⌜ r ≡ passOf (now (words .entry)) (now (items .entry)) ⌝ }
+// How many replies of the items are good, each by a call on the whole board.
+fn good_on_board(first: Board, items: &[u8]) -> u64
+    ensures { λ r. ⌜ r ≡ goodOf (length (now (items .entry)) / 29) first (now (items .entry)) ⌝ }
 {
-    let done = obeyed(words, 1);
-    let mut board = done.board;
+    let mut board = first;
     let mut good = 0;
     let n = items.len() / 29;
     let mut i = 0;
@@ -172,6 +236,22 @@ pub extern "C" fn ftm_replies(words: &[u16], items: &[u8]) -> u64
     good
 }
 
+// The same as `ftm_pass`, each item by a call on the whole board.
+#[no_mangle]
+pub extern "C" fn ftm_replies(words: &[u16], items: &[u8], good: &mut [u64]) -> u8
+    ensures { λ r. ⌜ CountsPass (now (words .entry)) (now (items .entry)) (now (good .entry)) r (now (good .exit)) ⌝ }
+{
+    let done = obeyed(words, 1);
+    let own = lower_of(done.refusal, left_over(items.len(), 29, 6));
+    let refusal = lower_of(own, no_room(1, good.len()));
+    if refusal != 0 {
+        return refusal;
+    }
+    let board = done.board;
+    good[0] = good_on_board(board, items);
+    0
+}
+
 // Whether a time-up is served: 1, else 0.
 fn served_count(answer: ReplyAnswer) -> u64
     ensures { λ r. ⌜ (r ≡ isGiven (replyOnPaper answer)) × (r ≤ 1) ⌝ }
@@ -182,13 +262,11 @@ fn served_count(answer: ReplyAnswer) -> u64
     }
 }
 
-// On a fresh board: obeys the first command of the words, then a time-up on each of the crates in turn. How many were served.
-#[no_mangle]
-pub extern "C" fn ftm_time_ups(words: &[u16], crates: &[u8]) -> u64
-    ensures { λ r. ⌜ r ≡ servedOf (afterOne (now (words .entry))) (now (crates .entry)) ⌝ }
+// How many time-ups are served, one on each of the crates in turn.
+fn served_time_ups(first: Board, crates: &[u8]) -> u64
+    ensures { λ r. ⌜ r ≡ servedOf first (now (crates .entry)) ⌝ }
 {
-    let done = obeyed(words, 1);
-    let mut board = done.board;
+    let mut board = first;
     let mut served = 0;
     let mut i = 0;
     while i < crates.len() {
@@ -202,34 +280,49 @@ pub extern "C" fn ftm_time_ups(words: &[u16], crates: &[u8]) -> u64
     served
 }
 
-// On a fresh board: obeys two commands of the words, then makes the clock steps, of so many ticks each, as many as the lent numbers have
-// room for, and writes the timestamp after each. The on-time then.
+// On a fresh board: obeys the first command of the words, then a time-up on each of the crates in turn. How many were served.
 #[no_mangle]
-pub extern "C" fn ftm_clock_steps(words: &[u16], ticks: &[u32], out: &mut [u64]) -> u64
-    ensures { λ r. ⌜ MakesSteps (afterTwo (now (words .entry))) (now (ticks .entry)) (now (out .entry)) r (now (out .exit)) ⌝ }
+pub extern "C" fn ftm_time_ups(words: &[u16], crates: &[u8], served: &mut [u64]) -> u8
+    ensures { λ r. ⌜ CountsTimeUps (now (words .entry)) (now (crates .entry)) (now (served .entry)) r (now (served .exit)) ⌝ }
+{
+    let done = obeyed(words, 1);
+    let refusal = lower_of(done.refusal, no_room(1, served.len()));
+    if refusal != 0 {
+        return refusal;
+    }
+    let board = done.board;
+    served[0] = served_time_ups(board, crates);
+    0
+}
+
+// On a fresh board: obeys two commands of the words, then makes the clock steps, of so many ticks each. The timestamp after each, and
+// then the on-time.
+#[no_mangle]
+pub extern "C" fn ftm_clock_steps(words: &[u16], ticks: &[u32], out: &mut [u64]) -> u8
+    ensures { λ r. ⌜ MakesSteps (now (words .entry)) (now (ticks .entry)) (now (out .entry)) r (now (out .exit)) ⌝ }
 {
     let done = obeyed(words, 2);
+    let refusal = lower_of(done.refusal, no_room(ticks.len() + 1, out.len()));
+    if refusal != 0 {
+        return refusal;
+    }
     let mut board = done.board;
     let mut i = 0;
     while i < ticks.len() {
-        if out.len() <= i {
-            let run = board.run;
-            return run.on_time;
-        }
         board = board.clock(ticks[i]);
         let run = board.run;
         out[i] = run.timestamp;
         i += 1;
     }
     let run = board.run;
-    run.on_time
+    out[i] = run.on_time;
+    0
 }
 
-// On a fresh board: obeys two commands of the words, then gives triggers of n = 4, whose packets go into the lent bytes one after another,
-// until there is no room for one more, or one is refused. How many were given.
-#[no_mangle]
-pub extern "C" fn ftm_triggers(words: &[u16], out: &mut [u8]) -> u64
-    ensures { λ r. ⌜ GivesTriggers (afterTwo (now (words .entry)) .run) (now (out .entry)) r (now (out .exit)) ⌝ }
+// `count` triggers of n = 4, or as many as are not refused, whose packets go into the lent bytes one after another. How many were given.
+fn given_triggers(first: Board, count: usize, out: &mut [u8]) -> u64
+    requires { ⌜ 7 * count ≤ length (now out) ⌝ }
+    ensures { λ r. ⌜ LaysPackets (first .run) count (now (out .entry)) r (now (out .exit)) ⌝ }
 {
     let fields = Fields {
         n: 4,
@@ -241,11 +334,9 @@ pub extern "C" fn ftm_triggers(words: &[u16], out: &mut [u8]) -> u64
         lp2: false,
         lp1: false,
     };
-    let done = obeyed(words, 2);
-    let mut board = done.board;
-    let n = out.len() / 7;
+    let mut board = first;
     let mut i = 0;
-    while i < n {
+    while i < count {
         let t = board.trigger(fields, &mut out[7 * i..]);
         let answer = t.answer;
         let next = t.board;
@@ -256,6 +347,23 @@ pub extern "C" fn ftm_triggers(words: &[u16], out: &mut [u8]) -> u64
         i += 1;
     }
     i as u64
+}
+
+// On a fresh board: obeys two commands of the words, then gives `count` triggers of n = 4, or as many as are not refused, whose packets go
+// into the lent bytes one after another. How many were given.
+#[no_mangle]
+pub extern "C" fn ftm_triggers(words: &[u16], count: usize, packets: &mut [u8], number: &mut [u64]) -> u8
+    ensures { λ r. ⌜ GivesTriggers (now (words .entry)) count (now (packets .entry)) (now (number .entry)) r (now (packets .exit)) (now (number .exit)) ⌝ }
+{
+    let done = obeyed(words, 2);
+    let own = lower_of(done.refusal, no_room(count, packets.len() / 7));
+    let refusal = lower_of(own, no_room(1, number.len()));
+    if refusal != 0 {
+        return refusal;
+    }
+    let board = done.board;
+    number[0] = given_triggers(board, count, packets);
+    0
 }
 
 // Whether bytes are a good packet: 1, else 0.
@@ -269,8 +377,7 @@ fn good_packet(bytes: &[u8]) -> u64
 }
 
 // How many of the packets, seven bytes each, are good.
-#[no_mangle]
-pub extern "C" fn ftm_packets(bytes: &[u8]) -> u64
+fn good_packets(bytes: &[u8]) -> u64
     ensures { λ r. ⌜ r ≡ goodPackets (now (bytes .entry)) ⌝ }
 {
     let n = bytes.len() / 7;
@@ -281,6 +388,19 @@ pub extern "C" fn ftm_packets(bytes: &[u8]) -> u64
         i += 1;
     }
     good
+}
+
+// How many of the packets, seven bytes each, are good.
+#[no_mangle]
+pub extern "C" fn ftm_packets(bytes: &[u8], good: &mut [u64]) -> u8
+    ensures { λ r. ⌜ CountsPackets (now (bytes .entry)) (now (good .entry)) r (now (good .exit)) ⌝ }
+{
+    let refusal = lower_of(left_over(bytes.len(), 7, 13), no_room(1, good.len()));
+    if refusal != 0 {
+        return refusal;
+    }
+    good[0] = good_packets(bytes);
+    0
 }
 
 // Writes the static block of a board of ID 0 with these words, and reads it back: a refusal's number, 0 where it reads.

@@ -9,20 +9,33 @@ use native.Mathlib.Numerals.{add-one}
 use lib.Dec.{eqb, leb}
 use lib.ListN.{length, getD, replicate}
 use borrow.Author.Tests.{lt-ltb, eq-eqb, ne-eqb, eqb-false, le-leb, lt-leb, leb-true, leb-false}
+use Rattle.refusals.specs.Tables.{Answer, given, refused, rule, lowest}
+use Rattle.refusals.proofs.Tables.{Exactly, exactly}
 use Rattle.crate_pass.specs.Crate.{begunCrate}
 use Rattle.crate_pass.specs.declared.PassKind.{PassKind}
 use Rattle.crate_pass.specs.declared.Crate.{Crate}
 use Rattle.crate_pass.proofs.Sound.{zeros}
-use Rattle.four_crates.specs.FourCrates.{crateOf, begunAll, failedAt, failure, recordsFrom, records, recordAt}
+use Rattle.four_crates.specs.FourCrates.{crateOf, begunAll, failedAt, failure, recordsFrom, records, recordAt, noSuchRecord, recordAnswer}
 use Rattle.four_crates.specs.declared.Failure.{Failure}
+
+-- the n-th of a list of records, and 18 where it has no more than n
+abbrev inList : List Failure → ℕ → Answer Failure
+inList l n = lowest (rule 18 (leb (length l) n) ∷ []) (getD l n (failure 0 0))
+
+leb-suc : (m n : ℕ) → leb (suc m) (suc n) ≡ leb m n
+leb-suc m n = go (leb m n) refl
+  where
+    go : (t : Bool) → leb m n ≡ t → leb (suc m) (suc n) ≡ leb m n
+    go true e = le-leb (suc m) (suc n) (let h = leb-true m n e in omega arith) ∙ sym e
+    go false e = lt-leb (suc m) (suc n) (let h = leb-false m n e in omega arith) ∙ sym e
 
 module _ (cs : List Crate) where
   -- the records from board k on, and the n-th of them
   abbrev pub left : ℕ → List Failure
   left k = recordsFrom cs (40 - k) k
 
-  abbrev pub found : ℕ → ℕ → Failure
-  found k n = getD (left k) n (failure 0 0)
+  abbrev pub found : ℕ → ℕ → Answer Failure
+  found k n = inList (left k) n
 
   left-suc : (k : ℕ) → k < 40 → 40 - k ≡ suc (40 - (k + 1))
   left-suc k h = omega arith
@@ -34,47 +47,38 @@ module _ (cs : List Crate) where
   here k h e = rw (left-suc k h) (rw (ne-eqb _ _ e, add-one k) refl)
 
   pub found-skip : (k n : ℕ) → k < 40 → failedAt cs k ≡ 0 → found k n ≡ found (k + 1) n
-  found-skip k n h e = ap (λ (l : List Failure). getD l n (failure 0 0)) (skip k h e)
+  found-skip k n h e = ap (λ (l : List Failure). inList l n) (skip k h e)
 
-  pub found-here : (k : ℕ) → k < 40 → (failedAt cs k ≡ 0 → ⊥) → found k 0 ≡ failure k (failedAt cs k)
-  found-here k h e = ap (λ (l : List Failure). getD l 0 (failure 0 0)) (here k h e)
+  pub found-here : (k : ℕ) → k < 40 → (failedAt cs k ≡ 0 → ⊥) → found k 0 ≡ given (failure k (failedAt cs k))
+  found-here k h e =
+      ap (λ (l : List Failure). inList l 0) (here k h e)
+      ∙ rw (lt-leb (suc (length (left (k + 1)))) 0 (omega arith)) refl
 
   pub found-later : (k n : ℕ) → k < 40 → (failedAt cs k ≡ 0 → ⊥) → (n ≡ 0 → ⊥) → found k n ≡ found (k + 1) (n - 1)
   found-later k n h e z =
       let s : n ≡ suc (n - 1) = omega arith in
-      ap (λ (l : List Failure). getD l n (failure 0 0)) (here k h e)
-      ∙ ap (λ (m : ℕ). getD (failure k (failedAt cs k) ∷ left (k + 1)) m (failure 0 0)) s
+      ap (λ (l : List Failure). inList l n) (here k h e)
+      ∙ ap (λ (m : ℕ). inList (failure k (failedAt cs k) ∷ left (k + 1)) m) s
+      ∙ rw (leb-suc (length (left (k + 1))) (n - 1)) refl
 
-  pub found-none : (k n : ℕ) → 40 ≤ k → found k n ≡ failure 0 0
-  found-none k n h = let z : 40 - k ≡ 0 = omega arith in rw z refl
+  pub found-none : (k n : ℕ) → 40 ≤ k → found k n ≡ refused 18 0
+  found-none k n h = let z : 40 - k ≡ 0 = omega arith in rw (z, le-leb 0 n (omega arith)) refl
 
-  pub found-first : (n : ℕ) → found 0 n ≡ recordAt cs n
+  left-first : left 0 ≡ records cs
   unfolding records
-  found-first n = refl
+  left-first = refl
 
-leb-suc : (m n : ℕ) → leb (suc m) (suc n) ≡ leb m n
-leb-suc m n = go (leb m n) refl
-  where
-    go : (t : Bool) → leb m n ≡ t → leb (suc m) (suc n) ≡ leb m n
-    go true e = le-leb (suc m) (suc n) (let h = leb-true m n e in omega arith) ∙ sym e
-    go false e = lt-leb (suc m) (suc n) (let h = leb-false m n e in omega arith) ∙ sym e
+  in-records : (n : ℕ) → inList (records cs) n ≡ recordAnswer cs n
+  unfolding recordAnswer
+  in-records n = refl
 
--- every record has a code, so one with code 0 is none
-coded : (cs : List Crate) (n k i : ℕ) → leb (length (recordsFrom cs n k)) i ≡ eqb (getD (recordsFrom cs n k) i (failure 0 0) .code) 0
-coded cs zero k i = le-leb 0 i (omega arith)
-coded cs (suc n) k i = go (eqb (failedAt cs k) 0) refl i (λ j. coded cs n (suc k) j)
-  where
-    go : (t : Bool) → eqb (failedAt cs k) 0 ≡ t → (i : ℕ)
-        → ((j : ℕ) → leb (length (recordsFrom cs n (suc k))) j ≡ eqb (getD (recordsFrom cs n (suc k)) j (failure 0 0) .code) 0)
-        → leb (length (cond t (recordsFrom cs n (suc k)) (failure k (failedAt cs k) ∷ recordsFrom cs n (suc k)))) i
-        ≡ eqb (getD (cond t (recordsFrom cs n (suc k)) (failure k (failedAt cs k) ∷ recordsFrom cs n (suc k))) i (failure 0 0) .code) 0
-    go true e i ih = ih i
-    go false e zero ih = lt-leb (suc (length (recordsFrom cs n (suc k)))) 0 (omega arith) ∙ sym e
-    go false e (suc i) ih = leb-suc (length (recordsFrom cs n (suc k))) i ∙ ih i
+  pub found-first : (n : ℕ) → found 0 n ≡ recordAnswer cs n
+  found-first n = ap (λ (l : List Failure). inList l n) left-first ∙ in-records n
 
-pub record-coded : (cs : List Crate) (n : ℕ) → leb (length (records cs)) n ≡ eqb (recordAt cs n .code) 0
-unfolding records
-record-coded cs n = coded cs 40 0 n
+  -- a record of an ordinal is given exactly where there are more than that, and 18 exactly where there are not
+  pub record-exactly : (n : ℕ) → Exactly (noSuchRecord cs n ∷ []) (recordAt cs n) (recordAnswer cs n)
+  unfolding recordAnswer
+  record-exactly n = exactly (noSuchRecord cs n ∷ []) (recordAt cs n) tt
 
 -- ---- a record says what failed on its board
 

@@ -3,8 +3,8 @@ use Prim.Native.Nat.{ℕ, zero, suc, _/_, _%_}
 use mathlib.Core.Path.{_≡_}
 use mathlib.Core.Bool.{Bool, not, cond, _||_}
 use mathlib.Core.List.{List, [], _∷_}
-use lib.Dec.{eqb, ltb}
-use lib.ListN.{getD}
+use lib.Dec.{eqb, leb, ltb}
+use lib.ListN.{length, getD}
 use Rattle.refusals.specs.Tables.{Answer, given, refused, Rule, rule, lowest, onPaper}
 use Rattle.ftu_list.specs.declared.Entry.{Entry}
 use Rattle.steps.specs.declared.Heard.{Heard}
@@ -16,6 +16,8 @@ use Rattle.four_crates.specs.declared.Outstanding.{Outstanding}
 use Rattle.four_crates.specs.declared.Outstanding.the-variants.{Step}
 use Rattle.four_crates.specs.declared.FramesSent.{FramesSent}
 use Rattle.four_crates.specs.declared.FramesSent.the-variants.{Number}
+use Rattle.four_crates.specs.declared.RecordFound.{RecordFound}
+use Rattle.four_crates.specs.declared.RecordFound.the-variants.{Record}
 use Rattle.four_crates.specs.declared.Failure.{Failure}
 
 -- what stands for a crate above 3, which there is none of
@@ -101,6 +103,17 @@ recordsFrom cs (suc n) k = cond (eqb (failedAt cs k) 0) (recordsFrom cs n (suc k
 unfoldable pub records : List Crate → List Failure
 records cs = recordsFrom cs 40 0
 
--- the record of an ordinal; code 0, which no record has, where there is none
+-- the record of an ordinal, where there is one
 abbrev pub recordAt : List Crate → ℕ → Failure
 recordAt cs n = getD (records cs) n (failure 0 0)
+
+-- "18: no failure record of that ordinal"
+abbrev pub noSuchRecord : List Crate → ℕ → Rule
+noSuchRecord cs n = rule 18 (leb (length (records cs)) n)
+
+abbrev pub recordOnPaper : RecordFound → Answer Failure
+recordOnPaper (Record f) = given f
+recordOnPaper (RecordFound.Refused r) = onPaper r
+
+unfoldable pub recordAnswer : List Crate → ℕ → Answer Failure
+recordAnswer cs n = lowest (noSuchRecord cs n ∷ []) (recordAt cs n)

@@ -4,7 +4,7 @@ ghost use Prim.Native.Nat.{_<_};
 ghost use lib.ListN.{getD};
 ghost use Rattle.crate_pass.specs.Crate.{entriesIn, silent};
 ghost use Rattle.four_crates.specs.FourCrates.{inPass, begunAll, outstandingOnPaper, outstandingAnswer};
-ghost use Rattle.four_crates.specs.FourCrates.{sentOnPaper, sentOn, entriesOf, failedAt, recordAt};
+ghost use Rattle.four_crates.specs.FourCrates.{sentOnPaper, sentOn, entriesOf, failedAt, recordOnPaper, recordAnswer};
 use crate_pass::Crate;
 use crate_pass::PassKind;
 use ftu_list::Entry;
@@ -25,6 +25,12 @@ pub enum Outstanding {
 // The number of frames sent on a crate.
 pub enum FramesSent {
     Number(u16),
+    Refused(Refusal),
+}
+
+// The failure record of an ordinal.
+pub enum RecordFound {
+    Record(Failure),
     Refused(Refusal),
 }
 
@@ -136,9 +142,9 @@ fn failed_at(crates: [Crate; 4], k: usize) -> u8
     }
 }
 
-// The failure record of an ordinal, in rising k; where there is none its code is 0.
-pub fn record_at(crates: [Crate; 4], ordinal: usize) -> Failure
-    ensures { λ r. ⌜ r ≡ recordAt crates ordinal ⌝ }
+// The failure record of an ordinal, in rising k.
+pub fn record_at(crates: [Crate; 4], ordinal: usize) -> RecordFound
+    ensures { λ r. ⌜ recordOnPaper r ≡ recordAnswer crates ordinal ⌝ }
 {
     let mut left = ordinal;
     let mut k: u8 = 0;
@@ -146,11 +152,11 @@ pub fn record_at(crates: [Crate; 4], ordinal: usize) -> Failure
         let code = failed_at(crates, k as usize);
         if code != 0 {
             if left == 0 {
-                return Failure { k, code };
+                return RecordFound::Record(Failure { k, code });
             }
             left -= 1;
         }
         k += 1;
     }
-    Failure { k: 0, code: 0 }
+    RecordFound::Refused(Refusal::NoSuchRecord)
 }

@@ -1,6 +1,7 @@
 // 01's listing: for each command on standard input its ordinal, a space and its answer, one line each.
 use libc::STDIN_FILENO;
 use libc::STDOUT_FILENO;
+use stream::input_buffer;
 use stream::list_answers;
 
 fn line(ordinal: usize, answer: u8) {
@@ -11,8 +12,7 @@ fn line(ordinal: usize, answer: u8) {
 }
 
 fn main() {
-    // One byte more than the listing takes, so that longer input shows.
-    let mut bytes = [0u8; 65537];
+    let mut bytes = input_buffer();
     let n = io::read_full(STDIN_FILENO, &mut bytes);
     let listing = list_answers(&bytes[..n]);
     let answers = listing.answers;

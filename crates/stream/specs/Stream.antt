@@ -61,3 +61,7 @@ padded first l = record { first = first; count = length l; answers = l ++ replic
 -- "Longer input gives the one line `0 6`"; else the ordinals begin with 1
 unfoldable pub listed : List ℕ → Listing
 listed bytes = cond (ltb 65536 (length bytes)) (padded 0 (6 ∷ [])) (padded 1 (answersOn bytes))
+
+-- as much of the input as is read: one byte more than "at most 65,536". No more of it matters (proofs/Input.antt, `front-listed`)
+unfoldable pub inputBytes : ℕ
+inputBytes = 65537

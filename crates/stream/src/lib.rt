@@ -1,10 +1,10 @@
 // A stream of commands, obeyed on a fresh board whose FTUs are always silent: what the listing decides.
 ghost use mathlib.Core.Path.{_≡_};
 ghost use Prim.Native.Nat.{_≤_};
-ghost use lib.ListN.{length};
+ghost use lib.ListN.{length, replicate};
 ghost use Rattle.words.specs.Words.{wordsIn};
 ghost use Rattle.acceptance.specs.Acceptance.{answerOnPaper};
-ghost use Rattle.stream.specs.Stream.{timeUps, ranOut, numberGiven, stops, padded, answersOn, listed};
+ghost use Rattle.stream.specs.Stream.{timeUps, ranOut, numberGiven, stops, padded, answersOn, listed, inputBytes};
 use acceptance::CommandAnswer;
 use board::Board;
 use board::power_up;
@@ -115,4 +115,11 @@ pub fn list_answers(bytes: &[u8]) -> Listing
     words_from_bytes(bytes, &mut words);
     let count = bytes.len() / 2;
     answers_on(bytes, &words[..count])
+}
+
+// The bytes that a program reads its input into before it lists it: one more than the listing takes, so that longer input shows.
+pub fn input_buffer() -> [u8; 65537]
+    ensures { λ r. ⌜ r ≡ replicate inputBytes 0 ⌝ }
+{
+    [0; 65537]
 }

@@ -1,37 +1,50 @@
 -- `exports::ftm_clock_steps` meets its contract. Assumes nothing.
-use Prim.Native.Nat.{_-_, _≤_}
-use mathlib.Core.Path.{_≡_, refl}
-use lib.ListN.{length, length-set}
-use denote.Ref.{now}
-use Rattle.exports.specs.Exports.{afterTwo}
-use Rattle.exports.proofs.Clock.{Made, none-made, one-more, all-made, no-step-left, no-room-left}
-use borrow.Author.Needs.{needs}
+use Prim.Native.Nat.{_+_, _-_, _≤_}
 use native.Mathlib.Omega.{arith}
+use mathlib.Core.Path.{_≡_, refl, sym, ap, ap₂, _∙_}
+use lib.ListN.{length, drop, length-set}
+use Rattle.exports.specs.Exports.{lowerOf}
+use Rattle.exports.proofs.Refusing.{room-for, lower-none, gives-refused, gives}
+use Rattle.exports.proofs.Clock.{Made, none-made, one-more, all-made, steps-laid}
+use borrow.Author.Needs.{needs}
 use Rattle.exports.proofs.ftm_clock_steps.Statement.{statement}
 use Rattle.exports.proofs.ftm_clock_steps.Tie as tie
 
 abbrev Inv-loop : tie.InvT-loop
-Inv-loop words ticks out₀ board₀ i₀ out board i = (i ≤ length ticks) × Made (afterTwo words) ticks out₀ i board out × (length out ≡ length out₀)
+Inv-loop words ticks out₀ refusal board₀ i₀ out board i =
+    (i ≤ length ticks) × (length ticks + 1 ≤ length out₀) × (length out ≡ length out₀) × Made board₀ ticks out₀ i board out
 
 abbrev μ-loop : tie.MeasureT-loop
-μ-loop words ticks out₀ board₀ i₀ out board i = length ticks - i
+μ-loop words ticks out₀ refusal board₀ i₀ out board i = length ticks - i
 
 obeyed-requires : tie.Need-obeyed-requires Inv-loop μ-loop
 obeyed-requires c κs = search needs
 
-loop-holds : tie.Need-loop-holds Inv-loop μ-loop
-loop-holds c = (omega arith, none-made _ _ _ _ (c .before .obeyed .ensures .board), refl)
+add-no-room : tie.Need-add-no-room Inv-loop μ-loop
+add-no-room c = search needs
 
-same-length : tie.Need-same-length Inv-loop μ-loop
-same-length c = search needs
+no-room-requires : tie.Need-no-room-requires Inv-loop μ-loop
+no-room-requires c κs = search needs
+
+lower-of-requires : tie.Need-lower-of-requires Inv-loop μ-loop
+lower-of-requires c κs = search needs
 
 returns : tie.Need-returns Inv-loop μ-loop
 returns c =
-    let loop = c .before .before .before .loop in
-    let a = c .before .before .before .before .before .before .before .before .before .args in
-    let n = loop .inv .2 in
-    let full : length (now (a .out)) ≤ loop .i = omega arith in
-    all-made _ _ _ (loop .i) _ _ (loop .inv .1) (no-room-left (length (now (a .out))) (now (a .ticks)) (loop .i) full) _ refl
+    let at-lower = c .before in
+    let at-room = at-lower .before in
+    let at-obeyed = at-room .before in
+    let refusal = at-lower .lower-of .ensures ∙ ap₂ lowerOf (at-obeyed .obeyed .ensures .refusal) (at-room .no-room .ensures) in
+    gives-refused _ _ _ _ refusal (c .if1 .taken)
+
+loop-holds : tie.Need-loop-holds Inv-loop μ-loop
+loop-holds c =
+    let at-if = c .before in
+    let at-lower = at-if .before in
+    let at-room = at-lower .before in
+    let at-obeyed = at-room .before in
+    let refusal = at-lower .lower-of .ensures ∙ ap₂ lowerOf (at-obeyed .obeyed .ensures .refusal) (at-room .no-room .ensures) in
+    (omega arith, room-for _ _ (lower-none _ _ (sym refusal ∙ at-if .if1 .left) .1), refl, none-made _ _ _ _ refl)
 
 mul-clock : tie.Need-mul-clock Inv-loop μ-loop
 mul-clock c = search needs
@@ -46,7 +59,7 @@ mul-out : tie.Need-mul-out Inv-loop μ-loop
 mul-out c = search needs
 
 slice-write-out : tie.Need-slice-write-out Inv-loop μ-loop
-slice-write-out c = search needs
+slice-write-out c = let n = c .before .before .before .before .loop .inv .2 in search needs
 
 add-i : tie.Need-add-i Inv-loop μ-loop
 add-i c = search needs
@@ -56,22 +69,33 @@ loop-less c = search needs
 
 loop-again : tie.Need-loop-again Inv-loop μ-loop
 loop-again c =
-    let loop = c .before .before .before .before .before .loop in
+    let loop = c .before .before .before .before .loop in
     let n = loop .inv .2 in (
       omega arith,
-      one-more _ _ _ (loop .i) _ _ (loop .inv .1) (omega arith) (omega arith) _ (c .before .clock .ensures) _ refl,
+      loop .inv .1,
       simp length-set n,
+      one-more _ _ _ (loop .i) _ _ (loop .inv .3) (omega arith) (omega arith) _ (c .before .clock .ensures) _ refl,
     )
 
-same-length-2 : tie.Need-same-length-2 Inv-loop μ-loop
-same-length-2 c = search needs
+mul-out-2 : tie.Need-mul-out-2 Inv-loop μ-loop
+mul-out-2 c = search needs
+
+slice-write-out-2 : tie.Need-slice-write-out-2 Inv-loop μ-loop
+slice-write-out-2 c = let n = c .before .before .loop .inv .2 in search needs
+
+same-length : tie.Need-same-length Inv-loop μ-loop
+same-length c = search needs
 
 returns-2 : tie.Need-returns-2 Inv-loop μ-loop
 returns-2 c =
     let loop = c .before .before .loop in
-    let a = c .before .before .before .before .before .before .before .before .args in
-    let over : length (now (a .ticks)) ≤ loop .i = omega arith in
-    all-made _ _ _ (loop .i) _ _ (loop .inv .1) (no-step-left (length (now (a .out))) (now (a .ticks)) (loop .i) over) _ refl
+    let at-if = c .before .before .before .before in
+    let at-lower = at-if .before in
+    let at-room = at-lower .before in
+    let at-obeyed = at-room .before in
+    let refusal = at-lower .lower-of .ensures ∙ ap₂ lowerOf (at-obeyed .obeyed .ensures .refusal) (at-room .no-room .ensures) in
+    let made = all-made _ _ _ (loop .i) _ _ (loop .inv .3) (omega arith) (loop .inv .1) _ refl in
+    gives _ _ _ _ refusal (at-if .if1 .left) _ (steps-laid _ _ _ _ _ (at-obeyed .obeyed .ensures .board) made)
 
 pub ftm-clock-steps-spec : {M : Type 1} → statement M
 ftm-clock-steps-spec =
@@ -80,9 +104,11 @@ ftm-clock-steps-spec =
     Inv-loop
     μ-loop
     obeyed-requires
-    loop-holds
-    same-length
+    add-no-room
+    no-room-requires
+    lower-of-requires
     returns
+    loop-holds
     mul-clock
     shared-slice-read-clock
     clock-requires
@@ -91,5 +117,7 @@ ftm-clock-steps-spec =
     add-i
     loop-less
     loop-again
-    same-length-2
+    mul-out-2
+    slice-write-out-2
+    same-length
     returns-2)

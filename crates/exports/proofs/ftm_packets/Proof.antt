@@ -1,82 +1,59 @@
 -- `exports::ftm_packets` meets its contract. Assumes nothing.
-use Prim.Native.Nat.{_+_, _*_, _-_, _≤_}
-use mathlib.Core.Path.{_≡_}
-use lib.ListN.{drop}
-use Rattle.exports.proofs.Packets.{packet-start, packet-turn, packet-end}
-use Rattle.exports.specs.Exports.{goodFrom, goodPackets}
+use mathlib.Core.Path.{ap₂, _∙_}
+use Rattle.exports.specs.Exports.{lowerOf}
+use Rattle.exports.proofs.Refusing.{room-one, gives-refused, gives-count}
 use borrow.Author.Needs.{needs}
-use native.Mathlib.Omega.{arith}
 use Rattle.exports.proofs.ftm_packets.Statement.{statement}
 use Rattle.exports.proofs.ftm_packets.Tie as tie
 
-abbrev Inv-loop : tie.InvT-loop
-Inv-loop bytes n good₀ i₀ good i = (i ≤ n) × (good ≤ i) × (good + goodFrom (n - i) (drop (7 * i) bytes) ≡ goodFrom n bytes)
+left-over-requires : tie.Need-left-over-requires
+left-over-requires c κs = search needs
 
-abbrev μ-loop : tie.MeasureT-loop
-μ-loop bytes n good₀ i₀ good i = n - i
+no-room-requires : tie.Need-no-room-requires
+no-room-requires c κs = search needs
 
-loop-holds : tie.Need-loop-holds Inv-loop μ-loop
-loop-holds c = (omega arith, omega arith, packet-start _ (c .before .args .bytes .now))
+lower-of-requires : tie.Need-lower-of-requires
+lower-of-requires c κs = search needs
 
-mul-good-packet : tie.Need-mul-good-packet Inv-loop μ-loop
-mul-good-packet c = search needs
+returns : tie.Need-returns
+returns c =
+    let at-lower = c .before in
+    let at-room = at-lower .before in
+    let refusal = at-lower .lower-of .ensures ∙ ap₂ lowerOf (at-room .before .left-over .ensures) (at-room .no-room .ensures) in
+    gives-refused _ _ _ _ refusal (c .if1 .taken)
 
-mul-good-packet-2 : tie.Need-mul-good-packet-2 Inv-loop μ-loop
-mul-good-packet-2 c = search needs
+good-packets-requires : tie.Need-good-packets-requires
+good-packets-requires c κs = search needs
 
-add-good-packet : tie.Need-add-good-packet Inv-loop μ-loop
-add-good-packet c = search needs
+slice-write-good : tie.Need-slice-write-good
+slice-write-good c =
+    let at-if = c .before in
+    let at-lower = at-if .before in
+    let at-room = at-lower .before in
+    let refusal = at-lower .lower-of .ensures ∙ ap₂ lowerOf (at-room .before .left-over .ensures) (at-room .no-room .ensures) in
+    let h = room-one _ _ _ refusal (at-if .if1 .left) in
+    search needs
 
-sub-good-packet : tie.Need-sub-good-packet Inv-loop μ-loop
-sub-good-packet c = search needs
+same-length : tie.Need-same-length
+same-length c = search needs
 
-part-good-packet-start : tie.Need-part-good-packet-start Inv-loop μ-loop
-part-good-packet-start c = search needs
-
-part-good-packet-end : tie.Need-part-good-packet-end Inv-loop μ-loop
-part-good-packet-end c = search needs
-
-good-packet-requires : tie.Need-good-packet-requires Inv-loop μ-loop
-good-packet-requires c κs = search needs
-
-add-good : tie.Need-add-good Inv-loop μ-loop
-add-good c = search needs
-
-add-i : tie.Need-add-i Inv-loop μ-loop
-add-i c = search needs
-
-loop-less : tie.Need-loop-less Inv-loop μ-loop
-loop-less c = search needs
-
-loop-again : tie.Need-loop-again Inv-loop μ-loop
-loop-again c =
-    let in-loop = c .before .before in
-    let loop = in-loop .before .loop in
-    let bytes = in-loop .before .before .before .args .bytes .now in
-    let i = loop .i in
-    let turn = packet-turn bytes _ _ _ (loop .inv .2) _ (7 * i + 7 - 7 * i) (in-loop .loop-test .taken) (omega arith) (c .good-packet .ensures .0) in
-    (omega arith, omega (arith, c .good-packet .ensures .1), turn)
-
-returns : tie.Need-returns Inv-loop μ-loop
-unfolding goodPackets
-returns c = packet-end (c .before .before .before .args .bytes .now) _ _ _ (c .before .loop .inv .2) (omega arith)
+returns-2 : tie.Need-returns-2
+returns-2 c =
+    let at-if = c .before in
+    let at-lower = at-if .before in
+    let at-room = at-lower .before in
+    let refusal = at-lower .lower-of .ensures ∙ ap₂ lowerOf (at-room .before .left-over .ensures) (at-room .no-room .ensures) in
+    gives-count _ _ _ _ refusal (at-if .if1 .left) _ (c .good-packets .ensures)
 
 pub ftm-packets-spec : {M : Type 1} → statement M
 ftm-packets-spec =
     tie.close
     (tie.spec
-    Inv-loop
-    μ-loop
-    loop-holds
-    mul-good-packet
-    mul-good-packet-2
-    add-good-packet
-    sub-good-packet
-    part-good-packet-start
-    part-good-packet-end
-    good-packet-requires
-    add-good
-    add-i
-    loop-less
-    loop-again
-    returns)
+    left-over-requires
+    no-room-requires
+    lower-of-requires
+    returns
+    good-packets-requires
+    slice-write-good
+    same-length
+    returns-2)

@@ -1,6 +1,8 @@
 -- `exports::ftm_pass` meets its contract. Assumes nothing.
-use denote.Ref.{now}
-use Rattle.exports.proofs.Replies.{pass-is}
+use mathlib.Core.Path.{ap₂, _∙_}
+use Rattle.exports.specs.Exports.{lowerOf}
+use Rattle.exports.proofs.Refusing.{room-one, gives-refused, gives-count}
+use Rattle.exports.proofs.Replies.{pass-on-crates}
 use borrow.Author.Needs.{needs}
 use Rattle.exports.proofs.ftm_pass.Statement.{statement}
 use Rattle.exports.proofs.ftm_pass.Tie as tie
@@ -8,17 +10,79 @@ use Rattle.exports.proofs.ftm_pass.Tie as tie
 obeyed-requires : tie.Need-obeyed-requires
 obeyed-requires c κs = search needs
 
+left-over-requires : tie.Need-left-over-requires
+left-over-requires c κs = search needs
+
+lower-of-requires : tie.Need-lower-of-requires
+lower-of-requires c κs = search needs
+
+no-room-requires : tie.Need-no-room-requires
+no-room-requires c κs = search needs
+
+lower-of-requires-2 : tie.Need-lower-of-requires-2
+lower-of-requires-2 c κs = search needs
+
+returns : tie.Need-returns
+returns c =
+    let at-lower = c .before in
+    let at-room = at-lower .before in
+    let at-own = at-room .before in
+    let at-left = at-own .before in
+    let at-obeyed = at-left .before in
+    let refusal =
+    at-lower .lower-of2 .ensures
+    ∙ ap₂ lowerOf (at-own .lower-of .ensures ∙ ap₂ lowerOf (at-obeyed .obeyed .ensures .refusal) (at-left .left-over .ensures)) (at-room .no-room .ensures) in
+    gives-refused _ _ _ _ refusal (c .if1 .taken)
+
 slice-aggregate-good-replies : tie.Need-slice-aggregate-good-replies
 slice-aggregate-good-replies c = search needs
 
 good-replies-requires : tie.Need-good-replies-requires
 good-replies-requires c κs = search needs
 
-returns : tie.Need-returns
-returns c =
-    let at-obeyed = c .before .before .before .before .before in
-    pass-is (now (at-obeyed .before .before .before .args .words)) (at-obeyed .obeyed .result) (at-obeyed .obeyed .ensures) _ _ (c .good-replies .ensures)
+slice-write-good : tie.Need-slice-write-good
+slice-write-good c =
+    let at-if = c .before .before .before .before .before in
+    let at-lower = at-if .before in
+    let at-room = at-lower .before in
+    let at-own = at-room .before in
+    let at-left = at-own .before in
+    let at-obeyed = at-left .before in
+    let refusal =
+    at-lower .lower-of2 .ensures
+    ∙ ap₂ lowerOf (at-own .lower-of .ensures ∙ ap₂ lowerOf (at-obeyed .obeyed .ensures .refusal) (at-left .left-over .ensures)) (at-room .no-room .ensures) in
+    let h = room-one _ _ _ refusal (at-if .if1 .left) in
+    search needs
+
+same-length : tie.Need-same-length
+same-length c = search needs
+
+returns-2 : tie.Need-returns-2
+returns-2 c =
+    let at-if = c .before .before .before .before .before in
+    let at-lower = at-if .before in
+    let at-room = at-lower .before in
+    let at-own = at-room .before in
+    let at-left = at-own .before in
+    let at-obeyed = at-left .before in
+    let refusal =
+    at-lower .lower-of2 .ensures
+    ∙ ap₂ lowerOf (at-own .lower-of .ensures ∙ ap₂ lowerOf (at-obeyed .obeyed .ensures .refusal) (at-left .left-over .ensures)) (at-room .no-room .ensures) in
+    let good = pass-on-crates _ (at-obeyed .obeyed .result) (at-obeyed .obeyed .ensures) _ _ (c .good-replies .ensures) in
+    gives-count _ _ _ _ refusal (at-if .if1 .left) _ good
 
 pub ftm-pass-spec : {M : Type 1} → statement M
 ftm-pass-spec =
-    tie.close (tie.spec obeyed-requires slice-aggregate-good-replies good-replies-requires returns)
+    tie.close
+    (tie.spec
+    obeyed-requires
+    left-over-requires
+    lower-of-requires
+    no-room-requires
+    lower-of-requires-2
+    returns
+    slice-aggregate-good-replies
+    good-replies-requires
+    slice-write-good
+    same-length
+    returns-2)

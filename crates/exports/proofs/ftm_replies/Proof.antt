@@ -1,105 +1,84 @@
 -- `exports::ftm_replies` meets its contract. Assumes nothing.
-use Prim.Native.Nat.{_+_, _*_, _-_, _≤_}
-use mathlib.Core.Path.{_≡_, refl, _∙_}
-use lib.ListN.{drop}
-use Rattle.exports.specs.Exports.{goodOf, passOf}
-use Rattle.exports.proofs.Replies.{replies-start, turn-replied, reply-end}
+use mathlib.Core.Path.{ap₂, _∙_}
+use Rattle.exports.specs.Exports.{lowerOf}
+use Rattle.exports.proofs.Refusing.{room-one, gives-refused, gives-count}
+use Rattle.exports.proofs.Replies.{pass-on-board}
 use borrow.Author.Needs.{needs}
-use native.Mathlib.Omega.{arith}
 use Rattle.exports.proofs.ftm_replies.Statement.{statement}
 use Rattle.exports.proofs.ftm_replies.Tie as tie
 
-abbrev Inv-loop : tie.InvT-loop
-Inv-loop words items board₀ good₀ n i₀ board good i =
-    (i ≤ n) × (good ≤ i) × (good + goodOf (n - i) board (drop (29 * i) items) ≡ passOf words items)
-
-abbrev μ-loop : tie.MeasureT-loop
-μ-loop words items board₀ good₀ n i₀ board good i = n - i
-
-obeyed-requires : tie.Need-obeyed-requires Inv-loop μ-loop
+obeyed-requires : tie.Need-obeyed-requires
 obeyed-requires c κs = search needs
 
-loop-holds : tie.Need-loop-holds Inv-loop μ-loop
-loop-holds c = (omega arith, omega arith, replies-start _ (c .before .obeyed .result) (c .before .obeyed .ensures) _)
+left-over-requires : tie.Need-left-over-requires
+left-over-requires c κs = search needs
 
-mul-reply : tie.Need-mul-reply Inv-loop μ-loop
-mul-reply c = search needs
+lower-of-requires : tie.Need-lower-of-requires
+lower-of-requires c κs = search needs
 
-shared-slice-read-reply : tie.Need-shared-slice-read-reply Inv-loop μ-loop
-shared-slice-read-reply c = search needs
+no-room-requires : tie.Need-no-room-requires
+no-room-requires c κs = search needs
 
-mul-reply-2 : tie.Need-mul-reply-2 Inv-loop μ-loop
-mul-reply-2 c = search needs
+lower-of-requires-2 : tie.Need-lower-of-requires-2
+lower-of-requires-2 c κs = search needs
 
-add-reply : tie.Need-add-reply Inv-loop μ-loop
-add-reply c = search needs
+returns : tie.Need-returns
+returns c =
+    let at-lower = c .before in
+    let at-room = at-lower .before in
+    let at-own = at-room .before in
+    let at-left = at-own .before in
+    let at-obeyed = at-left .before in
+    let refusal =
+    at-lower .lower-of2 .ensures
+    ∙ ap₂ lowerOf (at-own .lower-of .ensures ∙ ap₂ lowerOf (at-obeyed .obeyed .ensures .refusal) (at-left .left-over .ensures)) (at-room .no-room .ensures) in
+    gives-refused _ _ _ _ refusal (c .if1 .taken)
 
-mul-reply-3 : tie.Need-mul-reply-3 Inv-loop μ-loop
-mul-reply-3 c = search needs
+good-on-board-requires : tie.Need-good-on-board-requires
+good-on-board-requires c κs = search needs
 
-add-reply-2 : tie.Need-add-reply-2 Inv-loop μ-loop
-add-reply-2 c = search needs
+slice-write-good : tie.Need-slice-write-good
+slice-write-good c =
+    let at-if = c .before .before in
+    let at-lower = at-if .before in
+    let at-room = at-lower .before in
+    let at-own = at-room .before in
+    let at-left = at-own .before in
+    let at-obeyed = at-left .before in
+    let refusal =
+    at-lower .lower-of2 .ensures
+    ∙ ap₂ lowerOf (at-own .lower-of .ensures ∙ ap₂ lowerOf (at-obeyed .obeyed .ensures .refusal) (at-left .left-over .ensures)) (at-room .no-room .ensures) in
+    let h = room-one _ _ _ refusal (at-if .if1 .left) in
+    search needs
 
-sub-reply : tie.Need-sub-reply Inv-loop μ-loop
-sub-reply c = search needs
+same-length : tie.Need-same-length
+same-length c = search needs
 
-part-reply-start : tie.Need-part-reply-start Inv-loop μ-loop
-part-reply-start c = search needs
-
-part-reply-end : tie.Need-part-reply-end Inv-loop μ-loop
-part-reply-end c = search needs
-
-reply-requires : tie.Need-reply-requires Inv-loop μ-loop
-reply-requires c κs = search needs
-
-good-count-requires : tie.Need-good-count-requires Inv-loop μ-loop
-good-count-requires c κs = search needs
-
-add-good : tie.Need-add-good Inv-loop μ-loop
-add-good c = search needs
-
-add-i : tie.Need-add-i Inv-loop μ-loop
-add-i c = search needs
-
-loop-less : tie.Need-loop-less Inv-loop μ-loop
-loop-less c = search needs
-
-loop-again : tie.Need-loop-again Inv-loop μ-loop
-loop-again c =
-    let at-reply = c .before .before in
-    let in-loop = at-reply .before .before .before in
-    let loop = in-loop .before .loop in
-    let items = in-loop .before .before .before .before .before .before .args .items .now in
-    let i = loop .i in
-    let turn =
-    turn-replied items _ i (in-loop .loop-test .taken) _ (29 * i + 29 - (29 * i + 1)) (omega arith) _ refl (at-reply .reply .result)
-    (at-reply .reply .ensures) (loop .good) _ (c .good-count .ensures .0) in
-    (omega arith, omega (arith, c .good-count .ensures .1), turn ∙ loop .inv .2)
-
-returns : tie.Need-returns Inv-loop μ-loop
-returns c = reply-end _ _ _ _ _ _ (omega arith) (c .before .loop .inv .2)
+returns-2 : tie.Need-returns-2
+returns-2 c =
+    let at-if = c .before .before in
+    let at-lower = at-if .before in
+    let at-room = at-lower .before in
+    let at-own = at-room .before in
+    let at-left = at-own .before in
+    let at-obeyed = at-left .before in
+    let refusal =
+    at-lower .lower-of2 .ensures
+    ∙ ap₂ lowerOf (at-own .lower-of .ensures ∙ ap₂ lowerOf (at-obeyed .obeyed .ensures .refusal) (at-left .left-over .ensures)) (at-room .no-room .ensures) in
+    let good = pass-on-board _ (at-obeyed .obeyed .result) (at-obeyed .obeyed .ensures) _ _ (c .good-on-board .ensures) in
+    gives-count _ _ _ _ refusal (at-if .if1 .left) _ good
 
 pub ftm-replies-spec : {M : Type 1} → statement M
 ftm-replies-spec =
     tie.close
     (tie.spec
-    Inv-loop
-    μ-loop
     obeyed-requires
-    loop-holds
-    mul-reply
-    shared-slice-read-reply
-    mul-reply-2
-    add-reply
-    mul-reply-3
-    add-reply-2
-    sub-reply
-    part-reply-start
-    part-reply-end
-    reply-requires
-    good-count-requires
-    add-good
-    add-i
-    loop-less
-    loop-again
-    returns)
+    left-over-requires
+    lower-of-requires
+    no-room-requires
+    lower-of-requires-2
+    returns
+    good-on-board-requires
+    slice-write-good
+    same-length
+    returns-2)

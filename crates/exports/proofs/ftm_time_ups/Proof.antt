@@ -1,70 +1,64 @@
 -- `exports::ftm_time_ups` meets its contract. Assumes nothing.
-use Prim.Native.Nat.{_+_, _-_, _≤_}
-use mathlib.Core.Path.{_≡_}
-use lib.ListN.{length, drop}
-use Rattle.exports.specs.Exports.{afterOne, servedOf}
-use Rattle.exports.proofs.TimeUps.{time-up-start, time-up-turn, time-up-end}
+use mathlib.Core.Path.{ap₂, _∙_}
+use Rattle.exports.specs.Exports.{lowerOf}
+use Rattle.exports.proofs.Refusing.{room-one, gives-refused, gives-count}
+use Rattle.exports.proofs.TimeUps.{served-after}
 use borrow.Author.Needs.{needs}
-use native.Mathlib.Omega.{arith}
 use Rattle.exports.proofs.ftm_time_ups.Statement.{statement}
 use Rattle.exports.proofs.ftm_time_ups.Tie as tie
 
-abbrev Inv-loop : tie.InvT-loop
-Inv-loop words crates board₀ served₀ i₀ board served i =
-    (i ≤ length crates) × (served ≤ i) × (served + servedOf board (drop i crates) ≡ servedOf (afterOne words) crates)
-
-abbrev μ-loop : tie.MeasureT-loop
-μ-loop words crates board₀ served₀ i₀ board served i = length crates - i
-
-obeyed-requires : tie.Need-obeyed-requires Inv-loop μ-loop
+obeyed-requires : tie.Need-obeyed-requires
 obeyed-requires c κs = search needs
 
-loop-holds : tie.Need-loop-holds Inv-loop μ-loop
-loop-holds c = (omega arith, omega arith, time-up-start _ _ _ (c .before .obeyed .ensures .board))
+no-room-requires : tie.Need-no-room-requires
+no-room-requires c κs = search needs
 
-shared-slice-read-time-up : tie.Need-shared-slice-read-time-up Inv-loop μ-loop
-shared-slice-read-time-up c = search needs
+lower-of-requires : tie.Need-lower-of-requires
+lower-of-requires c κs = search needs
 
-time-up-requires : tie.Need-time-up-requires Inv-loop μ-loop
-time-up-requires c κs = search needs
+returns : tie.Need-returns
+returns c =
+    let at-lower = c .before in
+    let at-room = at-lower .before in
+    let at-obeyed = at-room .before in
+    let refusal = at-lower .lower-of .ensures ∙ ap₂ lowerOf (at-obeyed .obeyed .ensures .refusal) (at-room .no-room .ensures) in
+    gives-refused _ _ _ _ refusal (c .if1 .taken)
 
-served-count-requires : tie.Need-served-count-requires Inv-loop μ-loop
-served-count-requires c κs = search needs
+served-time-ups-requires : tie.Need-served-time-ups-requires
+served-time-ups-requires c κs = search needs
 
-add-served : tie.Need-add-served Inv-loop μ-loop
-add-served c = search needs
+slice-write-served : tie.Need-slice-write-served
+slice-write-served c =
+    let at-if = c .before .before in
+    let at-lower = at-if .before in
+    let at-room = at-lower .before in
+    let at-obeyed = at-room .before in
+    let refusal = at-lower .lower-of .ensures ∙ ap₂ lowerOf (at-obeyed .obeyed .ensures .refusal) (at-room .no-room .ensures) in
+    let h = room-one _ _ _ refusal (at-if .if1 .left) in
+    search needs
 
-add-i : tie.Need-add-i Inv-loop μ-loop
-add-i c = search needs
+same-length : tie.Need-same-length
+same-length c = search needs
 
-loop-less : tie.Need-loop-less Inv-loop μ-loop
-loop-less c = search needs
-
-loop-again : tie.Need-loop-again Inv-loop μ-loop
-loop-again c =
-    let at-time-up = c .before .before in
-    let in-loop = at-time-up .before .before in
-    let turn =
-    time-up-turn _ _ _ _ _ (in-loop .before .loop .inv .2) (in-loop .loop-test .taken) (at-time-up .time-up .result) (at-time-up .time-up .ensures) _
-    (c .served-count .ensures .0) in
-    (omega arith, omega (arith, c .served-count .ensures .1), turn)
-
-returns : tie.Need-returns Inv-loop μ-loop
-returns c = let loop = c .before .loop in time-up-end _ (loop .i) _ _ _ (loop .inv .2) (omega arith)
+returns-2 : tie.Need-returns-2
+returns-2 c =
+    let at-if = c .before .before in
+    let at-lower = at-if .before in
+    let at-room = at-lower .before in
+    let at-obeyed = at-room .before in
+    let refusal = at-lower .lower-of .ensures ∙ ap₂ lowerOf (at-obeyed .obeyed .ensures .refusal) (at-room .no-room .ensures) in
+    let served = served-after _ (at-obeyed .obeyed .result) (at-obeyed .obeyed .ensures) _ _ (c .served-time-ups .ensures) in
+    gives-count _ _ _ _ refusal (at-if .if1 .left) _ served
 
 pub ftm-time-ups-spec : {M : Type 1} → statement M
 ftm-time-ups-spec =
     tie.close
     (tie.spec
-    Inv-loop
-    μ-loop
     obeyed-requires
-    loop-holds
-    shared-slice-read-time-up
-    time-up-requires
-    served-count-requires
-    add-served
-    add-i
-    loop-less
-    loop-again
-    returns)
+    no-room-requires
+    lower-of-requires
+    returns
+    served-time-ups-requires
+    slice-write-served
+    same-length
+    returns-2)

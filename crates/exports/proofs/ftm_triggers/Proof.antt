@@ -1,100 +1,100 @@
 -- `exports::ftm_triggers` meets its contract. Assumes nothing.
-use denote.Ref.{now}
-use Prim.Native.Nat.{_-_, _≤_}
-use mathlib.Core.Path.{refl, ap}
-use Rattle.board.specs.declared.Board.{Board}
-use Rattle.exports.specs.Exports.{afterTwo}
-use Rattle.exports.proofs.Triggers.{TriggersSoFar, none-given, at-end, one-given, one-refused}
+use mathlib.Core.Path.{_≡_, sym, ap, ap₂, _∙_}
+use Rattle.exports.specs.Exports.{lowerOf, triggersRefusal}
+use Rattle.exports.proofs.Refusing.{room-for, room-one, room-packets, lower-none, gives-refused, gives, gives-count}
+use Rattle.exports.proofs.Triggers.{laid-on}
 use borrow.Author.Needs.{needs}
-use native.Mathlib.Omega.{arith}
 use Rattle.exports.proofs.ftm_triggers.Statement.{statement}
 use Rattle.exports.proofs.ftm_triggers.Tie as tie
 
-abbrev Inv-loop : tie.InvT-loop
-Inv-loop words out₀ fields board₀ n i₀ out board i = (i ≤ n) × TriggersSoFar (afterTwo words .run) n i out₀ out (board .run)
-
-abbrev μ-loop : tie.MeasureT-loop
-μ-loop words out₀ fields board₀ n i₀ out board i = n - i
-
-obeyed-requires : tie.Need-obeyed-requires Inv-loop μ-loop
+obeyed-requires : tie.Need-obeyed-requires
 obeyed-requires c κs = search needs
 
-loop-holds : tie.Need-loop-holds Inv-loop μ-loop
-loop-holds c = (omega arith, none-given _ _ _ _ (ap (λ (β : Board). β .run) (c .before .obeyed .ensures .board)))
+no-room-requires : tie.Need-no-room-requires
+no-room-requires c κs = search needs
 
-mul-trigger : tie.Need-mul-trigger Inv-loop μ-loop
-mul-trigger c = search needs
+lower-of-requires : tie.Need-lower-of-requires
+lower-of-requires c κs = search needs
 
-sub-trigger : tie.Need-sub-trigger Inv-loop μ-loop
-sub-trigger c = search needs
+no-room-requires-2 : tie.Need-no-room-requires-2
+no-room-requires-2 c κs = search needs
 
-part-trigger-start : tie.Need-part-trigger-start Inv-loop μ-loop
-part-trigger-start c = search needs
+lower-of-requires-2 : tie.Need-lower-of-requires-2
+lower-of-requires-2 c κs = search needs
 
-part-trigger-end : tie.Need-part-trigger-end Inv-loop μ-loop
-part-trigger-end c = search needs
+returns : tie.Need-returns
+unfolding triggersRefusal
+returns c =
+    let at-lower = c .before in
+    let at-number = at-lower .before in
+    let at-own = at-number .before in
+    let at-packets = at-own .before in
+    let at-obeyed = at-packets .before in
+    let own = at-own .lower-of .ensures ∙ ap₂ lowerOf (at-obeyed .obeyed .ensures .refusal) (at-packets .no-room .ensures ∙ room-packets _ _) in
+    let refusal = at-lower .lower-of2 .ensures ∙ ap₂ lowerOf own (at-number .no-room2 .ensures) in
+    record { bytes = gives-refused _ _ _ _ refusal (c .if1 .taken); many = gives-refused _ _ _ _ refusal (c .if1 .taken) }
 
-trigger-requires : tie.Need-trigger-requires Inv-loop μ-loop
-trigger-requires c κs = search needs
+given-triggers-requires : tie.Need-given-triggers-requires
+given-triggers-requires c κs =
+    let at-if = c .before .before in
+    let at-lower = at-if .before in
+    let at-number = at-lower .before in
+    let at-own = at-number .before in
+    let at-packets = at-own .before in
+    let at-obeyed = at-packets .before in
+    let own = at-own .lower-of .ensures ∙ ap₂ lowerOf (at-obeyed .obeyed .ensures .refusal) (at-packets .no-room .ensures ∙ room-packets _ _) in
+    let refusal = at-lower .lower-of2 .ensures ∙ ap₂ lowerOf own (at-number .no-room2 .ensures) in
+    room-for _ _ (lower-none _ _ (lower-none _ _ (sym refusal ∙ at-if .if1 .left) .0) .1)
 
-enum-told : tie.Need-enum-told Inv-loop μ-loop
-enum-told c = search needs
+slice-write-number : tie.Need-slice-write-number
+slice-write-number c =
+    let at-if = c .before .before .before .before .before in
+    let at-lower = at-if .before in
+    let at-number = at-lower .before in
+    let at-own = at-number .before in
+    let at-packets = at-own .before in
+    let at-obeyed = at-packets .before in
+    let own = at-own .lower-of .ensures ∙ ap₂ lowerOf (at-obeyed .obeyed .ensures .refusal) (at-packets .no-room .ensures ∙ room-packets _ _) in
+    let refusal = at-lower .lower-of2 .ensures ∙ ap₂ lowerOf own (at-number .no-room2 .ensures) in
+    let h = room-one _ _ _ refusal (at-if .if1 .left) in
+    search needs
 
-enum-told-2 : tie.Need-enum-told-2 Inv-loop μ-loop
-enum-told-2 c = search needs
-
-same-length : tie.Need-same-length Inv-loop μ-loop
+same-length : tie.Need-same-length
 same-length c = search needs
 
-returns : tie.Need-returns Inv-loop μ-loop
-returns c =
-    let at-trigger = c .before .before .before .before .before in
-    let in-loop = at-trigger .before .before in
-    let loop = in-loop .before in
-    one-refused _ _ _ (now (loop .before .before .before .before .before .args .out)) _ _ (loop .loop .inv .1) refl (in-loop .loop-test .taken)
-    (at-trigger .trigger .result) _ (at-trigger .trigger .ensures) _ (c .enum-told2 .given .1)
-
-add-i : tie.Need-add-i Inv-loop μ-loop
-add-i c = search needs
-
-loop-less : tie.Need-loop-less Inv-loop μ-loop
-loop-less c = search needs
-
-loop-again : tie.Need-loop-again Inv-loop μ-loop
-loop-again c =
-    let at-trigger = c .before .before .before .before .before in
-    let in-loop = at-trigger .before .before in
-    let loop = in-loop .before in
-    let turn =
-    one-given _ _ _ (now (loop .before .before .before .before .before .args .out)) _ _ (loop .loop .inv .1) refl (in-loop .loop-test .taken)
-    (at-trigger .trigger .result) _ (at-trigger .trigger .ensures) _ (c .enum-told .given .1) in
-    (omega arith, turn)
-
-same-length-2 : tie.Need-same-length-2 Inv-loop μ-loop
+same-length-2 : tie.Need-same-length-2
 same-length-2 c = search needs
 
-returns-2 : tie.Need-returns-2 Inv-loop μ-loop
-returns-2 c = at-end _ _ _ (now (c .before .before .before .before .before .before .args .out)) _ _ (c .before .loop .inv .1) refl (omega arith) (omega arith)
+returns-2 : tie.Need-returns-2
+unfolding triggersRefusal
+returns-2 c =
+    let at-given = c .before .before in
+    let at-if = at-given .before .before .before in
+    let at-lower = at-if .before in
+    let at-number = at-lower .before in
+    let at-own = at-number .before in
+    let at-packets = at-own .before in
+    let at-obeyed = at-packets .before in
+    let own = at-own .lower-of .ensures ∙ ap₂ lowerOf (at-obeyed .obeyed .ensures .refusal) (at-packets .no-room .ensures ∙ room-packets _ _) in
+    let refusal = at-lower .lower-of2 .ensures ∙ ap₂ lowerOf own (at-number .no-room2 .ensures) in
+    let laid = laid-on _ (at-obeyed .obeyed .result) (at-obeyed .obeyed .ensures) _ _ _ _ (at-given .given-triggers .ensures) in
+    record {
+      bytes = gives _ _ _ _ refusal (at-if .if1 .left) _ (laid .packets);
+      many = gives-count _ _ _ _ refusal (at-if .if1 .left) _ (laid .number);
+    }
 
 pub ftm-triggers-spec : {M : Type 1} → statement M
 ftm-triggers-spec =
     tie.close
     (tie.spec
-    Inv-loop
-    μ-loop
     obeyed-requires
-    loop-holds
-    mul-trigger
-    sub-trigger
-    part-trigger-start
-    part-trigger-end
-    trigger-requires
-    enum-told
-    enum-told-2
-    same-length
+    no-room-requires
+    lower-of-requires
+    no-room-requires-2
+    lower-of-requires-2
     returns
-    add-i
-    loop-less
-    loop-again
+    given-triggers-requires
+    slice-write-number
+    same-length
     same-length-2
     returns-2)

@@ -1,4 +1,5 @@
 -- `four_crates::failed_at` meets its contract. Assumes nothing.
+use native.Mathlib.Omega.{arith}
 use Rattle.four_crates.specs.FourCrates.{failedAt}
 use borrow.Author.Tests.{lt-ltb, le-ltb}
 use borrow.Author.Needs.{needs}
@@ -16,11 +17,11 @@ array-read-result c = search needs
 
 returns : tie.Need-returns
 unfolding failedAt
-returns c = rw (lt-ltb _ _ (c .before .before .if1 .taken))
+returns c = rw (lt-ltb (c .before .before .before .args .k) 40 (omega arith))
 
 returns-2 : tie.Need-returns-2
 unfolding failedAt
-returns-2 c = rw (le-ltb _ _ (c .if1 .left))
+returns-2 c = rw (le-ltb (c .before .args .k) 40 (omega arith))
 
 pub failed-at-spec : {M : Type 1} → statement M
 failed-at-spec =

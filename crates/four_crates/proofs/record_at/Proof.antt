@@ -1,15 +1,16 @@
 -- `four_crates::record_at` meets its contract. Assumes nothing.
-use Prim.Native.Nat.{_-_, _+_}
+use Prim.Native.Nat.{ℕ, _-_, _+_}
 use mathlib.Core.Path.{_≡_, sym, ap, _∙_}
 use mathlib.Core.Logic.{⊎-elim}
-use Rattle.four_crates.specs.FourCrates.{failure, recordAt}
+use Rattle.refusals.specs.Tables.{given}
+use Rattle.four_crates.specs.FourCrates.{failure, recordAnswer}
 use Rattle.four_crates.proofs.Records.{found, found-skip, found-here, found-later, found-none, found-first}
 use borrow.Author.Needs.{needs}
 use Rattle.four_crates.proofs.record_at.Statement.{statement}
 use Rattle.four_crates.proofs.record_at.Tie as tie
 
 abbrev Inv-loop : tie.InvT-loop
-Inv-loop crates ordinal left₀ k₀ left k = found crates k left ≡ recordAt crates ordinal
+Inv-loop crates ordinal left₀ k₀ left k = found crates k left ≡ recordAnswer crates ordinal
 
 abbrev μ-loop : tie.MeasureT-loop
 μ-loop crates ordinal left₀ k₀ left k = 40 - k
@@ -28,7 +29,7 @@ returns c =
     let l = c .before .before .before .before .loop in
     let a = c .before .before .before .before .before .args in
     let e : l .left ≡ 0 = c .if2 .taken in
-    ap (failure (l .k)) (c .before .before .failed-at .ensures)
+    ap (λ (code : ℕ). given (failure (l .k) code)) (c .before .before .failed-at .ensures)
     ∙ sym (found-here (a .crates) (l .k) (search needs) (λ q. c .before .if1 .taken (c .before .before .failed-at .ensures ∙ q)))
     ∙ ap (found (a .crates) (l .k)) (sym e)
     ∙ l .inv
@@ -47,9 +48,10 @@ loop-again c =
     let l = c .before .before .before .loop in
     let a = c .before .before .before .before .args in
     let f = c .before .failed-at .ensures in
+    let there = found (a .crates) (l .k + 1) in
     ⊎-elim
-    (λ w. ap (found (a .crates) (l .k + 1)) (w .2) ∙ sym (found-later (a .crates) (l .k) (l .left) (search needs) (λ q. w .0 .taken (f ∙ q)) (w .1 .left)) ∙ l .inv)
-    (λ w. ap (found (a .crates) (l .k + 1)) (w .1) ∙ sym (found-skip (a .crates) (l .k) (l .left) (search needs) (sym f ∙ w .0 .left)) ∙ l .inv)
+    (λ w. ap there (w .2) ∙ sym (found-later (a .crates) (l .k) (l .left) (search needs) (λ q. w .0 .taken (f ∙ q)) (w .1 .left)) ∙ l .inv)
+    (λ w. ap there (w .1) ∙ sym (found-skip (a .crates) (l .k) (l .left) (search needs) (sym f ∙ w .0 .left)) ∙ l .inv)
     (c .if1 .came)
 
 returns-2 : tie.Need-returns-2 Inv-loop μ-loop

@@ -12,6 +12,9 @@ Inv-loop n listing answers i₀ i = Unit
 abbrev μ-loop : tie.MeasureT-loop
 μ-loop n listing answers i₀ i = listing .count - i
 
+input-buffer-requires : tie.Need-input-buffer-requires Inv-loop μ-loop
+input-buffer-requires c κs = search needs
+
 slice-aggregate-read-full : tie.Need-slice-aggregate-read-full Inv-loop μ-loop
 slice-aggregate-read-full c = search needs
 
@@ -31,10 +34,18 @@ loop-holds : tie.Need-loop-holds Inv-loop μ-loop
 loop-holds c = tt
 
 add-line : tie.Need-add-line Inv-loop μ-loop
-add-line c = let h = c .before .if1 .taken in let m = count-listed _ _ (c .before .before .before .before .before .list-answers .ensures) in let f = first-listed _ _ (c .before .before .before .before .before .list-answers .ensures) in omega arith
+add-line c =
+    let listed = c .before .before .before .before .before .list-answers .ensures in
+    let h = c .before .if1 .taken in
+    let m = count-listed _ _ listed in
+    let f = first-listed _ _ listed in
+    omega arith
 
 array-read-line : tie.Need-array-read-line Inv-loop μ-loop
-array-read-line c = let h = c .before .if1 .taken in let m = count-listed _ _ (c .before .before .before .before .before .list-answers .ensures) in omega arith
+array-read-line c =
+    let h = c .before .if1 .taken in
+    let m = count-listed _ _ (c .before .before .before .before .before .list-answers .ensures) in
+    omega arith
 
 line-requires : tie.Need-line-requires Inv-loop μ-loop
 line-requires c κs = search needs
@@ -57,6 +68,7 @@ main-spec =
     (tie.spec
     Inv-loop
     μ-loop
+    input-buffer-requires
     slice-aggregate-read-full
     read-full-requires
     array-share-prefix-bytes
