@@ -18,7 +18,8 @@ use Rattle.four_crates.specs.FourCrates.{inPass, begunAll}
 use Rattle.acceptance.specs.Acceptance.{notNow}
 use Rattle.acceptance.proofs.Deciding.{obeyed-now}
 use Rattle.board.specs.State.{crateAt, situationOf}
-use Rattle.board.specs.Commands.{boardAnswer, blockIn, written, pinged, carriedOut, afterCommand, boardAfter}
+use Rattle.command_reader.specs.Reading.{blockOf}
+use Rattle.board.specs.Commands.{boardAnswer, written, pinged, carriedOut, afterCommand, boardAfter}
 use Rattle.board.specs.declared.Board.{Board}
 use Rattle.cells.specs.Order.{from}
 use Rattle.any_order.specs.AnyOrder.{wordOf, beginsPass}
@@ -68,4 +69,5 @@ begun-by β block Ping p n = begun-ping β (idle-still (isRunning (β .run)) (no
 begun-by β block (CrateReset c) p n = absurd (let z : _≡_ {A = ℕ} 0 1 = cc in omega arith)
 
 pub begun-after : (β : Board) (w : List ℕ) (c : Command) → boardAnswer β w ≡ given c → beginsPass c ≡ true → Begun (boardAfter β w)
-begun-after β w c e p = subst (λ (a : Answer Command). Begun (afterCommand β (blockIn w) a)) (sym e) (begun-by β (blockIn w) c p (obeyed-now w (situationOf β) c e))
+begun-after β w c e p =
+    subst (λ (a : Answer Command). Begun (afterCommand β (blockOf w) a)) (sym e) (begun-by β (blockOf w) c p (obeyed-now w (situationOf β) c e))

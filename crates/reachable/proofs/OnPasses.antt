@@ -19,7 +19,8 @@ use Rattle.crate_pass.specs.Crate.{isDone, crateAfter}
 use Rattle.crate_pass.specs.declared.Crate.{Crate}
 use Rattle.four_crates.specs.FourCrates.{noCrate, crateOf, inPass, servedAnswer}
 use Rattle.board.specs.State.{crateAt, withCrates}
-use Rattle.board.specs.Commands.{boardAnswer, blockIn, written, pinged, carriedOut, afterCommand}
+use Rattle.command_reader.specs.Reading.{blockOf}
+use Rattle.board.specs.Commands.{boardAnswer, written, pinged, carriedOut, afterCommand}
 use Rattle.board.specs.SlowControl.{frameAt, replyAnswer, boardReplied}
 use Rattle.board.specs.declared.Board.{Board}
 use Rattle.any_order.specs.Steps.{Event, heard}
@@ -54,14 +55,14 @@ holds-begun β γ h e b c l w =
     }
 
 -- the state after an accepted command that begins a pass
-begun-by : (β : Board) (w : List ℕ) (c : Command) → boardAnswer β w ≡ given c → beginsPass c ≡ true → Begun (carriedOut β (blockIn w) c)
-begun-by β w c e p = subst (λ (a : Answer Command). Begun (afterCommand β (blockIn w) a)) e (begun-after β w c e p)
+begun-by : (β : Board) (w : List ℕ) (c : Command) → boardAnswer β w ≡ given c → beginsPass c ≡ true → Begun (carriedOut β (blockOf w) c)
+begun-by β w c e p = subst (λ (a : Answer Command). Begun (afterCommand β (blockOf w) a)) e (begun-after β w c e p)
 
-pub holds-write : (β : Board) (w : List ℕ) → boardAnswer β w ≡ given Write → Holds β → Holds (written β (blockIn w))
+pub holds-write : (β : Board) (w : List ℕ) → boardAnswer β w ≡ given Write → Holds β → Holds (written β (blockOf w))
 unfolding written
 holds-write β w e h =
     let c = counters-of β h in
-    holds-begun β (written β (blockIn w)) h refl (begun-by β w Write e refl)
+    holds-begun β (written β (blockOf w)) h refl (begun-by β w Write e refl)
     (record { timestamp = c .timestamp; on-time = c .on-time; counter = c .counter }) (block-length β w e) (block-within β w e)
 
 pub holds-ping : (β : Board) (w : List ℕ) → boardAnswer β w ≡ given Ping → Holds β → Holds (pinged β)
