@@ -5,7 +5,8 @@ use mathlib.Core.Path.{_≡_, refl, sym, ap, ap₂, _∙_}
 use mathlib.Core.Bool.{Bool, true, false, cond}
 use mathlib.Core.List.{List, [], _∷_, _++_, append-nil}
 use native.Mathlib.Omega.{arith}
-use lib.ListN.{length, drop, replicate}
+use lib.ListN.{length, take, drop, replicate}
+use lib.Seq.{take-all}
 use types.Run.{OneOf, miss}
 use denote.Enum.Declared.{tagOf}
 use Rattle.refusals.specs.Tables.{given}
@@ -33,10 +34,13 @@ use Rattle.board.specs.State.{situationOf, activeWords}
 use Rattle.board.specs.Commands.{boardAnswer, written, pinged, carriedOut, afterCommand, boardAfter}
 use Rattle.board.specs.declared.Board.{Board}
 
--- a block of 436 words, copied over 436 zeros
-pub block-copied : (b : List ℕ) → length b ≡ 436 → copied b (replicate 436 0) ≡ b
+-- a block of 436 words, all of them copied over 436 zeros
+pub block-copied : (b : List ℕ) → length b ≡ 436 → copied (take 436 b) (replicate 436 0) ≡ b
 block-copied b n =
-    copied-whole b (replicate 436 0) (omega arith) ∙ ap (λ (k : ℕ). b ++ drop k (replicate 436 0)) n ∙ append-nil b
+    ap (λ (l : List ℕ). copied l (replicate 436 0)) (take-all 436 b (omega arith))
+    ∙ copied-whole b (replicate 436 0) (omega arith)
+    ∙ ap (λ (k : ℕ). b ++ drop k (replicate 436 0)) n
+    ∙ append-nil b
 
 -- a command that begins a pass: a write or a ping, by their order
 abbrev pub BeginsPass : Command → Type 0

@@ -138,13 +138,13 @@ pub fn power_up(board_id: u64, firmware_id: u16) -> PoweredUp
     }
 }
 
-// The block of a write, copied out of the caller's words.
+// The block of a write, copied out of the caller's words. (A part of a constant length, though it is all of them, is copied at once.)
 fn stored(block: &[u16]) -> [u16; 436]
     requires { ⌜ length (now block) ≡ 436 ⌝ }
     ensures { λ r. ⌜ r ≡ now (block .entry) ⌝ }
 {
     let mut copy = [0u16; 436];
-    copy_words(block, &mut copy);
+    copy_words(&block[0..436], &mut copy);
     copy
 }
 

@@ -6,6 +6,15 @@ use borrow.Author.Needs.{needs}
 use Rattle.board.proofs.stored.Statement.{statement}
 use Rattle.board.proofs.stored.Tie as tie
 
+sub-copy-words : tie.Need-sub-copy-words
+sub-copy-words c = search needs
+
+part-copy-words-start : tie.Need-part-copy-words-start
+part-copy-words-start c = search needs
+
+part-copy-words-end : tie.Need-part-copy-words-end
+part-copy-words-end c = search needs
+
 slice-aggregate-copy-words : tie.Need-slice-aggregate-copy-words
 slice-aggregate-copy-words c = search needs
 
@@ -14,8 +23,16 @@ copy-words-requires c κs = search needs
 
 returns : tie.Need-returns
 returns c =
-    let start = c .before .before .before .before in
+    let start = c .before .before .before .before .before in
     c .before .copy-words .ensures ∙ block-copied (now (start .args .block)) (start .pre)
 
 pub stored-spec : {M : Type 1} → statement M
-stored-spec = tie.close (tie.spec slice-aggregate-copy-words copy-words-requires returns)
+stored-spec =
+    tie.close
+    (tie.spec
+    sub-copy-words
+    part-copy-words-start
+    part-copy-words-end
+    slice-aggregate-copy-words
+    copy-words-requires
+    returns)
