@@ -138,7 +138,7 @@ pub fn power_up(board_id: u64, firmware_id: u16) -> PoweredUp
     }
 }
 
-// The block of a write, copied out of the caller's words. (A part of a constant length, though it is all of them, is copied at once.)
+// The block of a write, copied out of the caller's words. (They are taken as a part of a constant length, which is copied faster.)
 fn stored(block: &[u16]) -> [u16; 436]
     requires { ⌜ length (now block) ≡ 436 ⌝ }
     ensures { λ r. ⌜ r ≡ now (block .entry) ⌝ }
@@ -185,7 +185,7 @@ fn run_after(run: Run, is_write: bool) -> Run
     if is_write { run.refresh() } else { run }
 }
 
-// The block stored after a write of the command's block, or a ping.
+// The block stored after a write, which stores the command's block, or a ping.
 fn block_after(block: [u16; 436], is_write: bool, command_block: &[u16]) -> [u16; 436]
     requires { ⌜ («is_write» ≡ true → length (now «command_block») ≡ 436) ⌝ }
     ensures { λ r. ⌜ r ≡ cond «is_write» (now («command_block» .entry)) block ⌝ }
