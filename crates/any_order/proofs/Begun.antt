@@ -13,9 +13,10 @@ use Rattle.crate_pass.specs.Crate.{nextBoard, firstCode, sentAt, begunCrate}
 use Rattle.crate_pass.specs.declared.PassKind.{PassKind}
 use Rattle.crate_pass.specs.declared.Crate.{Crate}
 use Rattle.four_crates.specs.FourCrates.{noCrate, inPass, begunAll}
-use Rattle.acceptance.proofs.Deciding.{obeyed-now}
+use Rattle.command_reader.specs.Reading as reading
+use Rattle.acceptance.proofs.Deciding.{obeyed-now, obeyed-read}
 use Rattle.board.specs.State.{crateAt, situationOf, withCrates}
-use Rattle.board.specs.Commands.{blockIn, written, pinged, afterCommand}
+use Rattle.board.specs.Commands.{written, pinged, afterCommand}
 use Rattle.board.specs.declared.Board.{Board}
 use Rattle.any_order.specs.Steps.{Step, step, steps, first}
 use Rattle.any_order.specs.AnyOrder.{Begin, write, ping, Accepted, startOf, kindOf, blockOf, wordOf, begunBoard}
@@ -39,10 +40,14 @@ pub base-with : (β : Board) (g : Begin) (cs : List Crate) → withCrates (base 
 unfolding withCrates begunBoard
 base-with β g cs = refl
 
+-- the block that the reader hands back is the command's
+block-read : (β : Board) (w : List ℕ) → Accepted β (write w) → blockOf β (write w) ≡ reading.blockOf w
+block-read β w e = rw (obeyed-read w (situationOf β) Write e)
+
 pub start-is : (β : Board) (g : Begin) → Accepted β g → startOf β g ≡ begunBoard β g (begunCrates β g)
 unfolding begunBoard written pinged
-start-is β (write w) e = ap (afterCommand β (blockIn w)) e
-start-is β (ping w) e = ap (afterCommand β (blockIn w)) e
+start-is β (write w) e = ap (afterCommand β (reading.blockOf w)) e ∙ ap (written β) (sym (block-read β w e))
+start-is β (ping w) e = ap (afterCommand β (reading.blockOf w)) e
 
 -- a command that asks for an idle board finds no run on
 idle-still : (running pass : Bool) → not (not running && pass) ≡ false → running ≡ false

@@ -5,9 +5,8 @@ use mathlib.Core.Path.{_≡_}
 use mathlib.Core.List.{List}
 use native.Mathlib.Omega.{arith}
 use lib.ListN.{length, getD, drop}
-use borrow.Author.Tests.{lt-ltb, le-ltb, le-leb, lt-leb, eq-eqb, ne-eqb, eqb-true, not-false}
+use borrow.Author.Tests.{lt-ltb, le-ltb, le-leb, lt-leb, eq-eqb, ne-eqb}
 use Rattle.refusals.specs.Tables.{given, refused}
-use Rattle.refusals.proofs.Tables.{given-clear}
 use Rattle.blocks.specs.declared.Header.{Header}
 use Rattle.block_reader.specs.Reading.{bodyLength, placeAbove, headerIn, readRules, blockAnswer}
 use Rattle.block_reader.specs.declared.Kind.{Kind}
@@ -42,8 +41,3 @@ module _ (kind : Kind) (w : List ℕ) where
       pub read-header : h .«board_id» < 2 ^ 57 → getD w 10 0 ≡ 0 → given h ≡ blockAnswer kind w
       unfolding blockAnswer readRules
       read-header b z = rw eh (simp (eq-eqb _ _ l, le-ltb _ _ (rw e at free), lt-leb _ _ (rw eh at b), eq-eqb _ _ z))
-
-  -- ---- an accepted block has its words
-  pub accepted-length : (h : Header) → blockAnswer kind w ≡ given h → length w ≡ 11 + bodyLength kind
-  unfolding blockAnswer readRules
-  accepted-length h e = eqb-true _ _ (not-false _ (given-clear (readRules kind w) (headerIn w) h e .0))

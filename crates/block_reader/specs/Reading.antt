@@ -1,18 +1,22 @@
 -- 01, Blocks sent out: "A reader is told the kind, gives the header's board ID, firmware ID, trigger counter and timestamp, and hands back the
 -- body as a part of the caller's words. It checks length, static and dynamic bounds, board ID and spare."
 use Prim.Native.Nat.{ℕ, _+_, _^_}
+use mathlib.Core.Path.{_≡_}
 use mathlib.Core.Bool.{not, _||_}
 use mathlib.Core.List.{List, [], _∷_}
 use lib.Dec.{ltb, leb, eqb}
 use lib.ListN.{length, getD, drop}
+use denote.Ref.{RefT, now}
 use Rattle.refusals.specs.Tables.{Answer, given, refused, Rule, rule, ruleAt, lowest, onPaper}
 use Rattle.numbers.specs.Numbers.{number}
+use Rattle.words.specs.Parts.{PartOf}
 use Rattle.bounds.specs.Bounds.{boundOf, measurementBound, lowestAbove}
 use Rattle.blocks.specs.declared.Header.{Header}
 use Rattle.block_reader.specs.declared.Kind.{Kind}
 use Rattle.block_reader.specs.declared.Kind.the-variants.{Static, Dynamic, FtuList, Failure}
 use Rattle.block_reader.specs.declared.BlockRead.{BlockRead}
 use Rattle.block_reader.specs.declared.BlockRead.the-variants.{Read, Refused}
+use Rattle.block_reader.specs.declared.ReadBlock.{ReadBlock}
 
 -- "static: 436 words"; dynamic: "on-time in three, then 484 words"; "FTU list, 249 words"; "failure message, 29 words"
 abbrev pub bodyLength : Kind → ℕ
@@ -62,3 +66,8 @@ bodyWhere (refused n p) body = []
 
 abbrev pub bodyOf : Kind → List ℕ → List ℕ
 bodyOf kind w = bodyWhere (blockAnswer kind w) (drop 11 w)
+
+-- what a reader hands back of the words w: the answer, and the body "as a part of the caller's words"
+pub record ReadsBlock (kind : Kind) (w : RefT (List ℕ)) (r : ReadBlock) : Type 0 where
+  pub answer : readOnPaper (r .answer) ≡ blockAnswer kind (now w)
+  pub body : PartOf w 11 (bodyOf kind (now w)) (r .body)

@@ -1,8 +1,9 @@
 // The reader of blocks, for the far end: it is told the kind, gives the header, and hands back the body.
 ghost use mathlib.Core.Path.{_≡_};
 ghost use Prim.Native.Nat.{_≤_};
-ghost use lib.ListN.{length};
-ghost use Rattle.block_reader.specs.Reading.{bodyLength, placeAbove, headerIn, readOnPaper, blockAnswer, bodyOf};
+ghost use lib.ListN.{length, drop};
+ghost use Rattle.words.specs.Parts.{PartOf};
+ghost use Rattle.block_reader.specs.Reading.{bodyLength, placeAbove, headerIn, readOnPaper, blockAnswer, bodyWhere, ReadsBlock};
 use blocks::Header;
 use bounds::Bounded;
 use bounds::lowest_in;
@@ -10,6 +11,7 @@ use numbers::number32;
 use numbers::number48;
 use numbers::number64;
 use refusals::Refusal;
+use words::part;
 use words::word_at;
 
 pub enum Kind {
@@ -91,12 +93,28 @@ pub fn read_block(kind: Kind, words: &[u16]) -> BlockRead
     BlockRead::Read(header)
 }
 
-// The body of a block of a kind, as the part of the words after the header; no words where the block is refused.
-pub fn body_of(kind: Kind, words: &[u16]) -> &[u16]
-    ensures { λ r. ⌜ now r ≡ bodyOf kind (now (words .entry)) ⌝ }
+// The body of a block that got the answer, as the part of the words after the header; no words where it is refused.
+pub fn body_after(answer: BlockRead, words: &[u16]) -> &[u16]
+    ensures { λ r. ⌜ PartOf (words .entry) 11 (bodyWhere (readOnPaper answer) (drop 11 (now (words .entry)))) r ⌝ }
 {
-    match read_block(kind, words) {
-        BlockRead::Read(_) => &words[11..],
-        BlockRead::Refused(_) => &words[..0],
+    match answer {
+        BlockRead::Read(_) => part(words, 11, words.len()),
+        BlockRead::Refused(_) => part(words, 11, 11),
     }
+}
+
+// A block that is read: the answer, and the body as a part of the caller's words.
+pub struct ReadBlock<'a> {
+    pub answer: BlockRead,
+    // No words where the block is refused.
+    pub body: &'a [u16],
+}
+
+// Reads a block of a kind, and hands back its body.
+pub fn read<'a>(kind: Kind, words: &'a [u16]) -> ReadBlock<'a>
+    ensures { λ r. ⌜ ReadsBlock kind (words .entry) r ⌝ }
+{
+    let answer = read_block(kind, words);
+    let body = body_after(answer, words);
+    ReadBlock { answer, body }
 }

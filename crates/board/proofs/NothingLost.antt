@@ -13,7 +13,7 @@ use Rattle.refusals.proofs.Writing.{refused-keeps}
 use Rattle.packets.specs.declared.Fields.{Fields}
 use Rattle.commands.specs.Commands.{blockLength}
 use Rattle.commands.specs.declared.Command.{Command}
-use Rattle.command_reader.specs.Reading.{Taken, readRules, commandIn, commandAnswer, usedOf}
+use Rattle.command_reader.specs.Reading.{Taken, readRules, commandIn, commandAnswer, usedOf, blockOf}
 use Rattle.command_reader.proofs.Tables.{accepted}
 use Rattle.command_reader.proofs.Used.{used-is}
 use Rattle.acceptance.specs.Acceptance.{stateRules, answerOnPaper, decided}
@@ -24,7 +24,7 @@ use Rattle.steps.specs.declared.Heard.{Heard}
 use Rattle.crate_pass.specs.Crate.{replyOnPaper}
 use Rattle.board.proofs.Answers.{applies-between}
 use Rattle.board.specs.State.{situationOf, withRun}
-use Rattle.board.specs.Commands.{blockIn, boardAnswer, afterCommand, boardAfter, Obeys, afterTriggerOn, TriggersOn}
+use Rattle.board.specs.Commands.{boardAnswer, afterCommand, boardAfter, Obeys, afterTriggerOn, TriggersOn}
 use Rattle.board.specs.SlowControl.{frameAt, fetchRules, replyAnswer, afterReply, boardReplied, Replies}
 use Rattle.board.specs.SentOut.{staticDue, dynamicDue, listRules, listDue, failureRules, failureDue}
 use Rattle.board.specs.declared.Board.{Board}
@@ -45,7 +45,7 @@ UsedAs w n = ((n ≤ 8) × (usedOf (commandAnswer w) ≡ 0)) ⊎ ((9 ≤ n) × (
 module _ (β : Board) (n p : ℕ) where
   module _ (w : List ℕ) (e : boardAnswer β w ≡ refused n p) where
     pub command-keeps : boardAfter β w ≡ β
-    command-keeps = ap (afterCommand β (blockIn w)) e
+    command-keeps = ap (afterCommand β (blockOf w)) e
 
     -- the words refuse it, or they are right and the state does
     by-words-or-state : UsedAs w n

@@ -1,12 +1,12 @@
 -- What an obeyed command does to a board.
 -- Assumes nothing.
-use Prim.Native.Nat.{ℕ, _≤_}
+use Prim.Native.Nat.{ℕ}
 use mathlib.Core.Path.{_≡_, refl, sym, ap, ap₂, _∙_}
 use mathlib.Core.Bool.{Bool, true, false, cond}
 use mathlib.Core.List.{List, [], _∷_, _++_, append-nil}
 use native.Mathlib.Omega.{arith}
-use lib.ListN.{length, take, drop, replicate, length-drop}
-use lib.Seq.{length-take-le}
+use lib.ListN.{length, take, drop, replicate}
+use lib.Seq.{take-all}
 use types.Run.{OneOf, miss}
 use denote.Enum.Declared.{tagOf}
 use Rattle.refusals.specs.Tables.{given}
@@ -16,7 +16,7 @@ use Rattle.commands.specs.declared.Command.{Command}
 use Rattle.commands.specs.declared.Command.the-variants.{Read, Write, Start, Stop, CrateReset}
 use Rattle.commands.specs.Commands.{isWrite}
 use Rattle.commands.proofs.Command.{the-type}
-use Rattle.commands.proofs.Each.{write-block}
+use Rattle.commands.proofs.Each.{is-a-write}
 use Rattle.acceptance.specs.Acceptance.{answerOnPaper}
 use Rattle.acceptance.specs.declared.CommandAnswer.{CommandAnswer}
 use Rattle.acceptance.specs.declared.CommandAnswer.the-variants.{Obeyed, Refused}
@@ -27,18 +27,20 @@ use Rattle.crate_pass.specs.declared.PassKind.{PassKind}
 use Rattle.crate_pass.specs.declared.PassKind.the-variants.{Reprogramming}
 use Rattle.crate_pass.specs.declared.Crate.{Crate}
 use Rattle.four_crates.specs.FourCrates.{begunAll}
-use Rattle.acceptance.proofs.Deciding.{obeyed-fits}
+use Rattle.acceptance.proofs.Deciding.{obeyed-read}
+use Rattle.command_reader.specs.Reading.{commandAnswer, usedOf, blockBefore, blockOf}
+use Rattle.command_reader.proofs.Used.{length-block}
 use Rattle.board.specs.State.{situationOf, activeWords}
-use Rattle.board.specs.Commands.{boardAnswer, blockIn, written, pinged, carriedOut, afterCommand, boardAfter}
+use Rattle.board.specs.Commands.{boardAnswer, written, pinged, carriedOut, afterCommand, boardAfter}
 use Rattle.board.specs.declared.Board.{Board}
 
--- the block of a write, copied over 436 zeros
-pub block-copied : (w : List ℕ) → 441 ≤ length w → copied (take 436 (drop 5 w)) (replicate 436 0) ≡ blockIn w
-block-copied w h =
-    let n : length (take 436 (drop 5 w)) ≡ 436 = length-take-le 436 (drop 5 w) (rw length-drop (omega arith)) in
-    copied-whole (take 436 (drop 5 w)) (replicate 436 0) (omega arith)
-    ∙ ap (λ (k : ℕ). take 436 (drop 5 w) ++ drop k (replicate 436 0)) n
-    ∙ append-nil (take 436 (drop 5 w))
+-- a block of 436 words, all of them copied over 436 zeros
+pub block-copied : (b : List ℕ) → length b ≡ 436 → copied (take 436 b) (replicate 436 0) ≡ b
+block-copied b n =
+    ap (λ (l : List ℕ). copied l (replicate 436 0)) (take-all 436 b (omega arith))
+    ∙ copied-whole b (replicate 436 0) (omega arith)
+    ∙ ap (λ (k : ℕ). b ++ drop k (replicate 436 0)) n
+    ∙ append-nil b
 
 -- a command that begins a pass: a write or a ping, by their order
 abbrev pub BeginsPass : Command → Type 0
@@ -52,27 +54,35 @@ pass-begun β block Stop o = absurd (miss (1 ∷ 4 ∷ []) 3 tt o)
 pass-begun β block Command.Ping o = refl
 pass-begun β block (CrateReset c) o = absurd (miss (1 ∷ 4 ∷ []) 5 tt o)
 
-module _ (β : Board) (w : List ℕ) where
-  -- the board after a refusal, and after the command c, which the answer a says was obeyed
-  module _ (a : CommandAnswer) (e : answerOnPaper a ≡ boardAnswer β w) where
-    pub after-refusal : (r : Refusal) → a ≡ Refused r → β ≡ boardAfter β w
-    after-refusal r q = ap (λ (x : CommandAnswer). afterCommand β (blockIn w) (answerOnPaper x)) (sym q) ∙ ap (afterCommand β (blockIn w)) e
+-- the board β after the answer a to a command whose block is b: a refusal, or the command c
+module _ (β : Board) (b : List ℕ) (a : CommandAnswer) where
+  pub after-refusal : (r : Refusal) → a ≡ Refused r → β ≡ afterCommand β b (answerOnPaper a)
+  after-refusal r q = ap (λ (x : CommandAnswer). afterCommand β b (answerOnPaper x)) (sym q)
 
-    module _ (c d : Command) (q : a ≡ Obeyed c) (k : c ≡ d) where
-      obeyed : given d ≡ boardAnswer β w
-      obeyed = sym (ap answerOnPaper (q ∙ ap Obeyed k)) ∙ e
+  pub after-obeyed : (c d : Command) → a ≡ Obeyed c → c ≡ d → (after : Board) → after ≡ carriedOut β b d → after ≡ afterCommand β b (answerOnPaper a)
+  after-obeyed c d q k after f = f ∙ ap (λ (x : CommandAnswer). afterCommand β b (answerOnPaper x)) (sym (q ∙ ap Obeyed k))
 
-      pub after-obeyed : (after : Board) → after ≡ carriedOut β (blockIn w) d → after ≡ boardAfter β w
-      after-obeyed after f = f ∙ ap (afterCommand β (blockIn w)) obeyed
+  -- where it begins a pass, t telling which
+  pub after-pass : (c : Command) → a ≡ Obeyed c → BeginsPass c → (t : Bool) → t ≡ isWrite c → (after : Board) → after ≡ cond t (written β b) (pinged β)
+      → after ≡ afterCommand β b (answerOnPaper a)
+  after-pass c q o t k after f =
+      after-obeyed c c q refl after (f ∙ ap (λ (s : Bool). cond s (written β b) (pinged β)) k ∙ pass-begun β b c o)
 
-    -- where it begins a pass, t telling which
-    pub after-pass : (c : Command) → a ≡ Obeyed c → BeginsPass c → (t : Bool) → t ≡ isWrite c → (after : Board) → after ≡ cond t (written β (blockIn w)) (pinged β) → after ≡ boardAfter β w
-    after-pass c q o t k after f =
-        after-obeyed c c q refl after (f ∙ ap (λ (s : Bool). cond s (written β (blockIn w)) (pinged β)) k ∙ pass-begun β (blockIn w) c o)
+  -- a write has its block
+  pub write-whole : (answerOnPaper a ≡ given Write → length b ≡ 436) → (c : Command) → a ≡ Obeyed c → (t : Bool) → t ≡ isWrite c → t ≡ true → length b ≡ 436
+  write-whole h c q t f k = h (ap answerOnPaper q ∙ ap given (is-a-write c (sym f ∙ k)))
 
-  -- a write that is obeyed has its block
-  pub write-long : (a : CommandAnswer) → answerOnPaper a ≡ boardAnswer β w → (c : Command) → a ≡ Obeyed c → (t : Bool) → t ≡ isWrite c → t ≡ true → 441 ≤ length w
-  write-long a e c q t f k = rw (write-block c (sym f ∙ k)) at (obeyed-fits w (situationOf β) c (sym (obeyed a e c c q refl)))
+-- the answer a to the first command of the words w, which used n of them, and the block b that the reader hands back
+module _ (β : Board) (w : List ℕ) (a : CommandAnswer) (e : answerOnPaper a ≡ boardAnswer β w) (n : ℕ) (u : n ≡ usedOf (commandAnswer w))
+    (b : List ℕ) (p : b ≡ blockBefore n w) where
+  block-is : b ≡ blockOf w
+  block-is = p ∙ ap (λ (k : ℕ). blockBefore k w) u
+
+  pub block-whole : answerOnPaper a ≡ given Write → length b ≡ 436
+  block-whole q = ap length block-is ∙ length-block w _ (obeyed-read w (situationOf β) Write (sym e ∙ q))
+
+  pub after-command : (after : Board) → after ≡ afterCommand β b (answerOnPaper a) → after ≡ boardAfter β w
+  after-command after f = f ∙ ap₂ (afterCommand β) block-is e
 
 -- the parts of a board on which a write or a ping began a pass
 pub begun-as : (β : Board) (b block words active : List ℕ) (run : Run) (kind : PassKind) (crates : List Crate) (t : Bool)

@@ -2,14 +2,13 @@
 use Prim.Native.Nat.{ℕ}
 use mathlib.Core.Path.{_≡_}
 use mathlib.Core.List.{List}
-use lib.ListN.{take, drop}
 use Rattle.refusals.specs.Tables.{Answer, given, refused}
 use Rattle.refusals.specs.Writing.{Wrote}
 use Rattle.packets.specs.Packets.{packetBytes}
 use Rattle.packets.specs.declared.Fields.{Fields}
 use Rattle.commands.specs.declared.Command.{Command}
 use Rattle.commands.specs.declared.Command.the-variants.{Read, Write, Start, Stop, Ping, CrateReset}
-use Rattle.command_reader.specs.Reading.{commandAnswer, usedOf}
+use Rattle.command_reader.specs.Reading.{commandAnswer, usedOf, blockOf}
 use Rattle.acceptance.specs.Acceptance.{answerOnPaper, decided}
 use Rattle.run.specs.Run.{started, stopped, refreshed, triggerNumber, triggerRules, triggerAnswer, afterAnswer}
 use Rattle.crate_pass.specs.declared.PassKind.{PassKind}
@@ -25,10 +24,6 @@ use Rattle.board.specs.declared.TriggeredOn.{TriggeredOn}
 -- what the first command of the words gets
 abbrev pub boardAnswer : Board → List ℕ → Answer Command
 boardAnswer β w = decided w (situationOf β)
-
--- the block of a write
-abbrev pub blockIn : List ℕ → List ℕ
-blockIn w = take 436 (drop 5 w)
 
 -- "A write stores the block, sets fresh and begins a reprogramming pass"
 unfoldable pub written : Board → List ℕ → Board
@@ -69,7 +64,7 @@ afterCommand β block (given c) = carriedOut β block c
 afterCommand β block (refused n p) = β
 
 abbrev pub boardAfter : Board → List ℕ → Board
-boardAfter β w = afterCommand β (blockIn w) (boardAnswer β w)
+boardAfter β w = afterCommand β (blockOf w) (boardAnswer β w)
 
 -- the board answered r, and used the words that reading the command uses
 pub record Obeys (β : Board) (w : List ℕ) (r : Obedience) : Type 0 where

@@ -4,16 +4,18 @@ ghost use mathlib.Core.Bool.{true, cond};
 ghost use mathlib.Core.List.{[]};
 ghost use Prim.Native.Nat.{_≤_};
 ghost use lib.ListN.{length};
+ghost use Rattle.refusals.specs.Tables.{given};
 ghost use Rattle.refusals.specs.Writing.{Wrote};
 ghost use Rattle.blocks.specs.Blocks.{measurementRules};
 ghost use Rattle.configuration.specs.Configuration.{activeWord};
+ghost use Rattle.commands.specs.declared.Command.the-variants.{Write};
 ghost use Rattle.acceptance.specs.Acceptance.{answerOnPaper};
 ghost use Rattle.run.specs.Run.{clockedRun, refreshed};
 ghost use Rattle.crate_pass.specs.declared.PassKind.the-variants.{Reprogramming, Ping};
 ghost use Rattle.steps.specs.Steps.{heardIn, silence};
 ghost use Rattle.four_crates.specs.FourCrates.{sentOnPaper};
 ghost use Rattle.board.specs.State.{activeWords, isIdle, situationOf, withRun, freshBoard, PowersUp};
-ghost use Rattle.board.specs.Commands.{blockIn, written, pinged, boardAnswer, boardAfter, Obeys, TriggersOn};
+ghost use Rattle.board.specs.Commands.{written, pinged, afterCommand, Obeys, TriggersOn};
 ghost use Rattle.board.specs.SlowControl.{frameAt, Replies, fetchRules, sentAnswer};
 ghost use Rattle.board.specs.SentOut.{headerOf, staticDue, dynamicDue, listRules, listDue, failureRules, failureDue};
 use acceptance::CommandAnswer;
@@ -23,6 +25,7 @@ use blocks::Header;
 use blocks::write_dynamic;
 use blocks::write_failure;
 use blocks::write_static;
+use command_reader::block_before;
 use commands::Command;
 use crate_pass::Crate;
 use crate_pass::PassKind;
@@ -136,14 +139,14 @@ pub fn power_up(board_id: u64, firmware_id: u16) -> PoweredUp
     }
 }
 
-// The block of a write, copied out of the command's words.
-fn block_in(words: &[u16]) -> [u16; 436]
-    requires { ⌜ 441 ≤ length (now words) ⌝ }
-    ensures { λ r. ⌜ r ≡ blockIn (now (words .entry)) ⌝ }
+// The block of a write, copied out of the caller's words. (They are taken as a part of a constant length, which is copied faster.)
+fn stored(block: &[u16]) -> [u16; 436]
+    requires { ⌜ length (now block) ≡ 436 ⌝ }
+    ensures { λ r. ⌜ r ≡ now (block .entry) ⌝ }
 {
-    let mut block = [0u16; 436];
-    copy_words(&words[5..441], &mut block);
-    block
+    let mut copy = [0u16; 436];
+    copy_words(&block[0..436], &mut copy);
+    copy
 }
 
 // The four words of active flags.
@@ -183,12 +186,16 @@ fn run_after(run: Run, is_write: bool) -> Run
     if is_write { run.refresh() } else { run }
 }
 
-// The block stored after a write or a ping.
-fn block_after(block: [u16; 436], is_write: bool, words: &[u16]) -> [u16; 436]
-    requires { ⌜ («is_write» ≡ true → 441 ≤ length (now words)) ⌝ }
-    ensures { λ r. ⌜ r ≡ cond «is_write» (blockIn (now (words .entry))) block ⌝ }
+// The block stored after a write, which stores the command's block, or a ping.
+fn block_after(block: [u16; 436], is_write: bool, command_block: &[u16]) -> [u16; 436]
+    requires { ⌜ («is_write» ≡ true → length (now «command_block») ≡ 436) ⌝ }
+    ensures { λ r. ⌜ r ≡ cond «is_write» (now («command_block» .entry)) block ⌝ }
 {
-    if is_write { block_in(words) } else { block }
+    if is_write {
+        stored(command_block)
+    } else {
+        block
+    }
 }
 
 // The active words of the last ping, after a write or a ping that finds the words `flags`.
@@ -233,9 +240,9 @@ impl Board {
     }
 
     // A pass begins: a write stores the block and sets fresh, a ping keeps the active words as they stand.
-    fn begin(self, is_write: bool, words: &[u16]) -> Board
-        requires { ⌜ («is_write» ≡ true → 441 ≤ length (now words)) ⌝ }
-        ensures { λ r. ⌜ r ≡ cond «is_write» (written self (blockIn (now (words .entry)))) (pinged self) ⌝ }
+    fn begin(self, is_write: bool, command_block: &[u16]) -> Board
+        requires { ⌜ («is_write» ≡ true → length (now «command_block») ≡ 436) ⌝ }
+        ensures { λ r. ⌜ r ≡ cond «is_write» (written self (now («command_block» .entry))) (pinged self) ⌝ }
     {
         let identity = self.identity;
         let run = self.run;
@@ -244,7 +251,7 @@ impl Board {
         let crates = self.crates;
         let kind = kind_of(is_write);
         let next_run = run_after(run, is_write);
-        let next_block = block_after(block, is_write, words);
+        let next_block = block_after(block, is_write, command_block);
         let flags = active_words(next_block);
         let next_active = active_after(active, is_write, flags);
         let begun = begin_all(crates, kind, flags);
@@ -258,10 +265,10 @@ impl Board {
         }
     }
 
-    // Does what an obeyed command says. A read, a crate reset and a refusal change nothing.
-    fn carry_out(mut self, answer: CommandAnswer, words: &[u16]) -> Board
-        requires { ⌜ answerOnPaper answer ≡ boardAnswer self (now words) ⌝ }
-        ensures { λ r. ⌜ r ≡ boardAfter self (now (words .entry)) ⌝ }
+    // Does what an obeyed command says, whose block is given. A read, a crate reset and a refusal change nothing.
+    fn carry_out(mut self, answer: CommandAnswer, block: &[u16]) -> Board
+        requires { ⌜ (answerOnPaper answer ≡ given Write → length (now block) ≡ 436) ⌝ }
+        ensures { λ r. ⌜ r ≡ afterCommand self (now (block .entry)) (answerOnPaper answer) ⌝ }
     {
         let run = self.run;
         match answer {
@@ -271,7 +278,7 @@ impl Board {
                 Command::Start(length) => self.run = run.start(length),
                 Command::Stop => self.run = run.stop(),
                 Command::CrateReset(_) => {}
-                Command::Write | Command::Ping => self = self.begin(c.is_write(), words),
+                Command::Write | Command::Ping => self = self.begin(c.is_write(), block),
             },
         }
         self
@@ -283,10 +290,12 @@ impl Board {
     {
         let decision = decide(words, self.situation());
         let answer = decision.answer;
+        let used = decision.used;
+        let block = block_before(words, used);
         Obedience {
-            board: self.carry_out(answer, words),
+            board: self.carry_out(answer, block),
             answer,
-            used: decision.used,
+            used,
         }
     }
 

@@ -1,13 +1,15 @@
 // The reader of commands: the first command of a stream's words, its block, and the words that remain.
 ghost use mathlib.Core.Path.{_≡_};
-ghost use Rattle.commands.specs.declared.Listed.the-variants.{Found};
-ghost use Rattle.command_reader.specs.Reading.{spareSet, countIn, Marked, readOnPaper, commandAnswer, restOf, blockOf};
+ghost use Rattle.refusals.specs.Tables.{given};
+ghost use Rattle.words.specs.Parts.{PartOf};
+ghost use Rattle.command_reader.specs.Reading.{spareSet, countIn, Marked, readOnPaper, commandAnswer, usedOf, blockBefore, restAfter, ReadsCommand};
 use bounds::lowest_above;
 use commands::Command;
 use commands::Listed;
 use commands::listed_as;
 use numbers::number32;
 use refusals::Refusal;
+use words::part;
 use words::word_at;
 
 // What reading finds: a command with the words that it takes, or a refusal, which takes none.
@@ -35,7 +37,7 @@ fn spare_set(words: &[u16]) -> bool
 
 // Reads the rest of the command c, which the first three words name.
 fn read_listed(words: &[u16], c: Command) -> CommandRead
-    requires { ⌜ Marked (now words) (Found c) ⌝ }
+    requires { ⌜ Marked (now words) (given c) ⌝ }
     ensures { λ r. ⌜ readOnPaper r ≡ commandAnswer (now (words .entry)) ⌝ }
 {
     if spare_set(words) {
@@ -69,28 +71,57 @@ pub fn read_command(words: &[u16]) -> CommandRead
     }
     let found = listed_as(words[1], words[2], count_in(words));
     match found {
-        Listed::UnknownCommand => CommandRead::Refused(Refusal::UnknownCommand),
-        Listed::UnlistedParameter => CommandRead::Refused(Refusal::UnlistedParameter),
         Listed::Found(c) => read_listed(words, c),
+        Listed::Refused(r) => CommandRead::Refused(r),
     }
 }
 
-// The words after the command that the words begin with; all of them where it is refused.
-pub fn rest_of(words: &[u16]) -> &[u16]
-    ensures { λ r. ⌜ now r ≡ restOf (now (words .entry)) ⌝ }
-{
-    match read_command(words) {
-        CommandRead::Accepted(_, used) => &words[used..],
-        CommandRead::Refused(_) => words,
+impl CommandRead {
+    // The words that a command used.
+    pub fn used(self) -> usize
+        ensures { λ r. ⌜ r ≡ usedOf (readOnPaper self) ⌝ }
+    {
+        match self {
+            CommandRead::Accepted(_, used) => used,
+            CommandRead::Refused(_) => 0,
+        }
     }
 }
 
-// The block of the command that the words begin with; no words where it has none or is refused.
-pub fn block_of(words: &[u16]) -> &[u16]
-    ensures { λ r. ⌜ now r ≡ blockOf (now (words .entry)) ⌝ }
+// The block of a command that used so many of the words, as a part of them.
+pub fn block_before(words: &[u16], used: usize) -> &[u16]
+    ensures { λ r. ⌜ PartOf (words .entry) 5 (blockBefore used (now (words .entry))) r ⌝ }
 {
-    match read_command(words) {
-        CommandRead::Accepted(_, used) => &words[5..used],
-        CommandRead::Refused(_) => &words[..0],
+    part(words, 5, used)
+}
+
+// The words that remain after a command that used so many of them, as a part of them.
+pub fn rest_after(words: &[u16], used: usize) -> &[u16]
+    ensures { λ r. ⌜ PartOf (words .entry) used (restAfter used (now (words .entry))) r ⌝ }
+{
+    part(words, used, words.len())
+}
+
+// A command that is read: the answer, and its block and the words that remain as parts of the caller's words.
+pub struct ReadCommand<'a> {
+    pub answer: CommandRead,
+    // No words where the command has no block or is refused.
+    pub block: &'a [u16],
+    // All words where it is refused.
+    pub rest: &'a [u16],
+}
+
+// Reads the command that the words begin with, and hands back its block and the words that remain.
+pub fn read<'a>(words: &'a [u16]) -> ReadCommand<'a>
+    ensures { λ r. ⌜ ReadsCommand (words .entry) r ⌝ }
+{
+    let answer = read_command(words);
+    let used = answer.used();
+    let block = block_before(words, used);
+    let rest = rest_after(words, used);
+    ReadCommand {
+        answer,
+        block,
+        rest,
     }
 }

@@ -14,7 +14,7 @@ use Rattle.blocks.specs.Blocks.{headerWords}
 use Rattle.blocks.specs.declared.Header.{Header}
 use Rattle.block_reader.specs.Reading.{blockAnswer}
 use Rattle.block_reader.specs.declared.Kind.the-variants.{Static}
-use Rattle.command_reader.specs.Reading.{commandAnswer, usedOf}
+use Rattle.command_reader.specs.Reading.{commandAnswer, restOf}
 use Rattle.steps.specs.Steps.{heardIn, silence}
 use Rattle.steps.specs.declared.Heard.{Heard}
 use Rattle.run.specs.Run.{clockedRun, triggerNumber, triggerRules, afterTrigger}
@@ -73,19 +73,15 @@ commandGiven w = answerNumber (commandAnswer w)
 
 -- ---- commands one after another: each is the first of the words that those before it left
 
--- the words after the first command: where they refuse it, it uses none
-abbrev pub wordsAfter : List ℕ → List ℕ
-wordsAfter w = drop (usedOf (commandAnswer w)) w
-
 -- the board after n commands
 unfoldable pub afterCommands : ℕ → Board → List ℕ → Board
 afterCommands zero β w = β
-afterCommands (suc n) β w = afterCommands n (boardAfter β w) (wordsAfter w)
+afterCommands (suc n) β w = afterCommands n (boardAfter β w) (restOf w)
 
 -- how many of n commands are accepted
 unfoldable pub acceptedOf : ℕ → Board → List ℕ → ℕ
 acceptedOf zero β w = 0
-acceptedOf (suc n) β w = isGiven (boardAnswer β w) + acceptedOf n (boardAfter β w) (wordsAfter w)
+acceptedOf (suc n) β w = isGiven (boardAnswer β w) + acceptedOf n (boardAfter β w) (restOf w)
 
 -- how many of n commands a fresh board accepts: none of them refuses the call
 abbrev pub CountsAccepted : ℕ → List ℕ → List ℕ → ℕ → List ℕ → Type 0
@@ -94,7 +90,7 @@ CountsAccepted n w out r after = GivesCount 0 (acceptedOf n (freshBoard 0 0) w) 
 -- the number of the first of n commands that is refused
 unfoldable pub firstRefusal : ℕ → Board → List ℕ → ℕ
 firstRefusal zero β w = 0
-firstRefusal (suc n) β w = firstOf (answerNumber (boardAnswer β w)) (firstRefusal n (boardAfter β w) (wordsAfter w))
+firstRefusal (suc n) β w = firstOf (answerNumber (boardAnswer β w)) (firstRefusal n (boardAfter β w) (restOf w))
 
 -- a fresh board after one command, and after two
 abbrev pub afterOne : List ℕ → Board

@@ -22,6 +22,7 @@ use board::Board;
 use board::power_up;
 use command_reader::CommandRead;
 use command_reader::read_command;
+use command_reader::rest_after;
 use configuration::active_word;
 use crate_pass::Crate;
 use crate_pass::Outcome;
@@ -124,13 +125,14 @@ fn obeyed(words: &[u16], count: u64) -> AfterCommands
     let mut board = up.board;
     let mut accepted = 0;
     let mut refusal = 0;
-    let mut at = 0;
+    let mut rest = words;
     let mut i = 0;
     while i < count {
-        let done = board.obey(&words[at..]);
+        let done = board.obey(rest);
         let answer = done.answer;
         let next = done.board;
-        at += done.used;
+        let after = rest_after(rest, done.used);
+        rest = after;
         accepted += accepted_count(answer);
         refusal = first_of(refusal, command_refusal(answer));
         board = next;

@@ -14,7 +14,7 @@ use Rattle.command_reader.specs.Reading.{readRules, taken, blockOf}
 use Rattle.command_reader.proofs.Used.{length-block, write-within}
 use Rattle.acceptance.proofs.Deciding.{obeyed-named, obeyed-words, obeyed-read}
 use Rattle.board.specs.State.{situationOf}
-use Rattle.board.specs.Commands.{boardAnswer, blockIn, written, afterCommand, boardAfter}
+use Rattle.board.specs.Commands.{boardAnswer, written, afterCommand, boardAfter}
 use Rattle.board.specs.declared.Board.{Board}
 
 module _ (β : Board) (w : List ℕ) (c : Command) (e : boardAnswer β w ≡ given c) where
@@ -24,16 +24,13 @@ module _ (β : Board) (w : List ℕ) (c : Command) (e : boardAnswer β w ≡ giv
   accepted-events = ap noEvents (sym (obeyed-named w (situationOf β) c e)) ∙ obeyed-words w (situationOf β) c e .1 .1 .1 .1 .1 .1 .0
 
 module _ (β : Board) (w : List ℕ) (e : boardAnswer β w ≡ given Write) where
-  block-is : blockIn w ≡ blockOf w
-  block-is = rw (obeyed-read w (situationOf β) Write e)
+  pub block-length : length (blockOf w) ≡ 436
+  block-length = length-block w (taken Write 441) (obeyed-read w (situationOf β) Write e)
 
-  pub block-length : length (blockIn w) ≡ 436
-  block-length = ap length block-is ∙ length-block w (taken Write 441) (obeyed-read w (situationOf β) Write e)
-
-  pub block-within : lowestAbove boundOf 0 (blockIn w) ≡ 436
-  block-within = ap (lowestAbove boundOf 0) block-is ∙ write-within w (taken Write 441) (obeyed-read w (situationOf β) Write e) refl
+  pub block-within : lowestAbove boundOf 0 (blockOf w) ≡ 436
+  block-within = write-within w (taken Write 441) (obeyed-read w (situationOf β) Write e) refl
 
   -- it is what is stored then
   pub written-block : boardAfter β w .block ≡ blockOf w
   unfolding written
-  written-block = ap (λ (a : Answer Command). afterCommand β (blockIn w) a .block) e ∙ block-is
+  written-block = ap (λ (a : Answer Command). afterCommand β (blockOf w) a .block) e

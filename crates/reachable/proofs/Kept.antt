@@ -14,7 +14,7 @@ use Rattle.command_reader.specs.Reading.{blockOf}
 use Rattle.block_reader.specs.declared.Kind.the-variants.{Static}
 use Rattle.round_trips.specs.Blocks.{ReadsBack}
 use Rattle.board.specs.State.{withRun, freshBoard}
-use Rattle.board.specs.Commands.{boardAnswer, blockIn, pinged, afterCommand, boardAfter}
+use Rattle.board.specs.Commands.{boardAnswer, pinged, afterCommand, boardAfter}
 use Rattle.board.specs.declared.Board.{Board}
 use Rattle.board.specs.SentOut.{headerOf, staticDue}
 use Rattle.reachable.specs.Calls.{Call, command, clockStep, trigger, reply, timeUp, afterCall, afterAll, isWrite, noWrite}
@@ -37,7 +37,7 @@ command-keeps β block (refused n p) e = refl
 
 call-keeps : (β : Board) (x : Call) → Free isWrite β x → afterCall β x .block ≡ β .block
 unfolding afterCall withRun
-call-keeps β (command words) free = command-keeps β (blockIn words) (boardAnswer β words) free
+call-keeps β (command words) free = command-keeps β (blockOf words) (boardAnswer β words) free
 call-keeps β (clockStep ticks) free = refl
 call-keeps β (trigger fields out) free = refl
 call-keeps β (reply c bytes) free = replied-block β c _

@@ -25,7 +25,8 @@ use Rattle.crate_pass.proofs.Entries.{entries-stay}
 use Rattle.four_crates.specs.FourCrates.{begunAll, entriesOf}
 use Rattle.four_crates.proofs.Entries.{same-list}
 use Rattle.board.specs.State.{crateAt, activeWords, withRun, withCrates, freshBoard}
-use Rattle.board.specs.Commands.{boardAnswer, blockIn, written, pinged, afterCommand, boardAfter}
+use Rattle.command_reader.specs.Reading.{blockOf}
+use Rattle.board.specs.Commands.{boardAnswer, written, pinged, afterCommand, boardAfter}
 use Rattle.board.specs.SlowControl.{boardReplied}
 use Rattle.board.specs.SentOut.{headerOf, listRules, listOf, listDue}
 use Rattle.board.specs.declared.Board.{Board}
@@ -50,7 +51,7 @@ zeros-at-power-up id firmware = refl
 pub list-cleared : (β : Board) (w : List ℕ) → boardAnswer β w ≡ given Ping
     → listBody (listOf (boardAfter β w)) ≡ replicate 5 0 ++ activeWords (β .block) ++ replicate 240 0
 unfolding pinged begunAll begunCrate entriesOf entriesFrom listHead entryWords
-list-cleared β w e = ap (λ (a : Answer Command). listBody (listOf (afterCommand β (blockIn w) a))) e
+list-cleared β w e = ap (λ (a : Answer Command). listBody (listOf (afterCommand β (blockOf w) a))) e
 
 -- ---- one call leaves the list as it was, and no ping under way
 
@@ -98,7 +99,7 @@ same-event β c e h (inl p) = go (ltb c 4) refl (isDone (crateAt β c)) refl
 
 same-call : (β : Board) (x : Call) → Holds β → Free isPing β x → NoPingUnderWay β → Same β (afterCall β x)
 unfolding afterCall withRun
-same-call β (command words) h free n = same-command β (blockIn words) (boardAnswer β words) free n
+same-call β (command words) h free n = same-command β (blockOf words) (boardAnswer β words) free n
 same-call β (clockStep ticks) h free n = record { list = refl; still = n }
 same-call β (trigger fields out) h free n = record { list = refl; still = n }
 same-call β (reply c bytes) h free n = same-event β c (Event.reply bytes) h n

@@ -27,7 +27,8 @@ use Rattle.crate_pass.specs.declared.Crate.{Crate}
 use Rattle.crate_pass.proofs.Sound.{sound-begun, sound-after}
 use Rattle.four_crates.specs.FourCrates.{noCrate, crateOf, inPass, begunAll, servedAnswer}
 use Rattle.board.specs.State.{crateAt, activeWords, withCrates}
-use Rattle.board.specs.Commands.{boardAnswer, blockIn, written, pinged, afterCommand}
+use Rattle.command_reader.specs.Reading.{blockOf}
+use Rattle.board.specs.Commands.{boardAnswer, written, pinged, afterCommand}
 use Rattle.board.specs.SlowControl.{frameAt, boardReplied}
 use Rattle.board.specs.declared.Board.{Board}
 use Rattle.any_order.specs.Steps.{Event, heard}
@@ -80,23 +81,23 @@ holds-begun β γ h e b s =
     }
 
 -- the state after an accepted command that begins a pass
-begun-write : (β : Board) (w : List ℕ) → boardAnswer β w ≡ given Write → Begun (written β (blockIn w))
-begun-write β w e = subst (λ (a : Answer Command). Begun (afterCommand β (blockIn w) a)) e (begun-after β (write w) e)
+begun-write : (β : Board) (w : List ℕ) → boardAnswer β w ≡ given Write → Begun (written β (blockOf w))
+begun-write β w e = subst (λ (a : Answer Command). Begun (afterCommand β (blockOf w) a)) e (begun-after β (write w) e)
 
 begun-ping : (β : Board) (w : List ℕ) → boardAnswer β w ≡ given Ping → Begun (pinged β)
-begun-ping β w e = subst (λ (a : Answer Command). Begun (afterCommand β (blockIn w) a)) e (begun-after β (ping w) e)
+begun-ping β w e = subst (λ (a : Answer Command). Begun (afterCommand β (blockOf w) a)) e (begun-after β (ping w) e)
 
-pub holds-write : (β : Board) (w : List ℕ) → boardAnswer β w ≡ given Write → Holds β → Holds (written β (blockIn w))
+pub holds-write : (β : Board) (w : List ℕ) → boardAnswer β w ≡ given Write → Holds β → Holds (written β (blockOf w))
 unfolding written
 holds-write β w e h =
     let k = h .reaches in
-    holds-begun β (written β (blockIn w)) h refl (begun-write β w e)
+    holds-begun β (written β (blockOf w)) h refl (begun-write β w e)
     (record {
       run = sound-refreshed (β .run) (k .run);
       length-block = block-length β w e;
       within = block-within β w e;
       active = k .active;
-      crates = sound-all (β .kind) Reprogramming (activeWords (blockIn w)) (β .crates) (k .crates);
+      crates = sound-all (β .kind) Reprogramming (activeWords (blockOf w)) (β .crates) (k .crates);
     })
 
 -- the words of active flags, 0x1B0 to 0x1B3, are within their bounds

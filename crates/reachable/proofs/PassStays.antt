@@ -18,7 +18,8 @@ use Rattle.run.specs.declared.Run.{Run}
 use Rattle.four_crates.specs.FourCrates.{inPass, sentOn, failedAt, records}
 use Rattle.four_crates.proofs.Records.{records-begun}
 use Rattle.board.specs.State.{withRun, freshBoard}
-use Rattle.board.specs.Commands.{boardAnswer, blockIn, written, pinged, carriedOut, afterCommand, boardAfter}
+use Rattle.command_reader.specs.Reading.{blockOf}
+use Rattle.board.specs.Commands.{boardAnswer, written, pinged, carriedOut, afterCommand, boardAfter}
 use Rattle.board.specs.SlowControl.{boardReplied, sentAnswer}
 use Rattle.board.specs.SentOut.{failureRules, failureDue}
 use Rattle.board.specs.declared.Board.{Board}
@@ -54,7 +55,7 @@ replied-run β c h d = let e = replied-same β c h d in e ∙ ap (λ (γ : Board
 
 call-run : (β : Board) (x : Call) → inPass (β .crates) ≡ false → Free isWriteOrPing β x → afterCall β x ≡ withRun β (afterCall β x .run)
 unfolding afterCall withRun
-call-run β (command words) d free = command-run β (blockIn words) (boardAnswer β words) free
+call-run β (command words) d free = command-run β (blockOf words) (boardAnswer β words) free
 call-run β (clockStep ticks) d free = refl
 call-run β (trigger fields out) d free = refl
 call-run β (reply c bytes) d free = replied-run β c _ d
@@ -99,7 +100,7 @@ carried-records β block Ping p = records-begun _ _ (β .crates)
 carried-records β block (CrateReset c) p = false≢true p
 
 pub records-cleared : (β : Board) (w : List ℕ) (c : Command) → boardAnswer β w ≡ given c → beginsPass c ≡ true → records (boardAfter β w .crates) ≡ []
-records-cleared β w c e p = ap (λ (a : Answer Command). records (afterCommand β (blockIn w) a .crates)) e ∙ carried-records β (blockIn w) c p
+records-cleared β w c e p = ap (λ (a : Answer Command). records (afterCommand β (blockOf w) a .crates)) e ∙ carried-records β (blockOf w) c p
 
 -- ---- before any pass: the number "is 0 before any", and there are "no failure records"
 

@@ -21,7 +21,8 @@ use Rattle.run.specs.declared.Running.the-variants.{Stopped}
 use Rattle.run.specs.declared.Run.{Run}
 use Rattle.run.proofs.Laws.{after-last, after-another}
 use Rattle.board.specs.State.{withRun}
-use Rattle.board.specs.Commands.{boardAnswer, blockIn, written, pinged, afterCommand, boardAfter}
+use Rattle.command_reader.specs.Reading.{blockOf}
+use Rattle.board.specs.Commands.{boardAnswer, written, pinged, afterCommand, boardAfter}
 use Rattle.board.specs.declared.Board.{Board}
 use Rattle.reachable.specs.Calls.{Call, command, clockStep, trigger, reply, timeUp, afterCall, afterAll, isStartOrStop, noStartOrStop}
 use Rattle.reachable.specs.Numbering.{whereGiven, numberOf, numbers, upFrom, GoesOn, Numbered}
@@ -101,7 +102,7 @@ going-command l m β block (refused n p) e g = g
 
 next-call : (l : RunLength) (m : ℕ) (β : Board) (x : Call) → Free isStartOrStop β x → Going l m (β .run) → Next l m (numberOf β x) (afterCall β x .run)
 unfolding afterCall withRun clockedRun
-next-call l m β (command words) free g = same refl (going-command l m β (blockIn words) (boardAnswer β words) free g)
+next-call l m β (command words) free g = same refl (going-command l m β (blockOf words) (boardAnswer β words) free g)
 next-call l m β (clockStep ticks) free g = same refl (kept l m (β .run) (clockedRun (β .run) ticks) refl refl g)
 next-call l m β (trigger fields out) free g = next-trigger l m (β .run) fields out g
 next-call l m β (reply c bytes) free g = same refl (rw (replied-run β c _) g)
@@ -140,7 +141,7 @@ more-at-first (Counted x) e = let n = eqb-false x 0 e in omega arith
 going-start : (β : Board) (w : List ℕ) (l : RunLength) → boardAnswer β w ≡ given (Start l) → Going l 0 (boardAfter β w .run)
 unfolding withRun
 going-start β w l e =
-    subst (λ (a : Answer Command). Going l 0 (afterCommand β (blockIn w) a .run)) (sym e)
+    subst (λ (a : Answer Command). Going l 0 (afterCommand β (blockOf w) a .run)) (sym e)
     (on refl refl (more-at-first l (accepted-events β w (Start l) e)))
 
 -- 01, Trigger packets

@@ -22,7 +22,6 @@ use Rattle.commands.specs.declared.BlockKind.the-variants.{Static, Dynamic}
 use Rattle.commands.specs.declared.RunLength.the-variants.{Endless, Counted}
 use Rattle.commands.specs.declared.Command.{Command}
 use Rattle.commands.specs.declared.Command.the-variants.{Read, Write, Start, Stop, Ping, CrateReset}
-use Rattle.commands.specs.declared.Listed.the-variants.{Found}
 use Rattle.command_reader.proofs.Reading.{read-write, read-other}
 use Rattle.round_trips.specs.Commands.{CountFits, ReadsBack}
 use Rattle.command_writer.specs.Writing.{blockFor, commandWords, writeRules}
@@ -32,7 +31,7 @@ module _ (b rest : List ℕ) where
   abbrev written : Command → List ℕ
   written c = commandWords c b ++ rest
 
-  reset-named : (n : ℕ) → n ≤ 3 → namedIn (written (CrateReset n)) ≡ Found (CrateReset n)
+  reset-named : (n : ℕ) → n ≤ 3 → namedIn (written (CrateReset n)) ≡ given (CrateReset n)
   unfolding listedAs
   reset-named zero h = refl
   reset-named (suc zero) h = refl
@@ -40,13 +39,13 @@ module _ (b rest : List ℕ) where
   reset-named (suc (suc (suc zero))) h = refl
   reset-named (suc (suc (suc (suc n)))) h = absurd (let k : ⊥ = omega arith in k)
 
-  named : (c : Command) → Clear (writeRules c b) → CountFits c → namedIn (written c) ≡ Found c
+  named : (c : Command) → Clear (writeRules c b) → CountFits c → namedIn (written c) ≡ given c
   unfolding listedAs
   named (Read Static) k f = refl
   named (Read Dynamic) k f = refl
   named Write k f = refl
   named (Start Endless) k f = refl
-  named (Start (Counted x)) k f = ap (λ (y : ℕ). Found (Start (Counted y))) (number-digits 65536 (omega arith) 2 x f)
+  named (Start (Counted x)) k f = ap (λ (y : ℕ). given (Start (Counted y))) (number-digits 65536 (omega arith) 2 x f)
   named Stop k f = refl
   named Ping k f = refl
   named (CrateReset n) k f = reset-named n (ltb-false _ _ (k .0))
@@ -60,7 +59,7 @@ module _ (b rest : List ℕ) where
   block-long Ping k = refl
   block-long (CrateReset n) k = refl
 
-  marked : (c : Command) → Clear (writeRules c b) → CountFits c → Marked (written c) (Found c)
+  marked : (c : Command) → Clear (writeRules c b) → CountFits c → Marked (written c) (given c)
   marked c k f = record { five = omega arith; mark = refl; named = named c k f }
 
   long : (c : Command) → Clear (writeRules c b) → 5 + blockLength c ≤ length (written c)

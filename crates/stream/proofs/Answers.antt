@@ -1,6 +1,6 @@
 -- The list of answers, one command at a time, and the turns of the loop that lists them.
 -- Assumes nothing.
-use Prim.Native.Nat.{ℕ, zero, suc, _+_, _*_, _-_, _/_, _<_, _≤_}
+use Prim.Native.Nat.{ℕ, zero, suc, _+_, _*_, _-_, _/_, _%_, _<_, _≤_}
 use mathlib.Core.Path.{_≡_, refl, sym, ap, ap₂, _∙_}
 use mathlib.Core.Bool.{Bool, true, false, cond, _&&_}
 use mathlib.Core.List.{List, [], _∷_, _++_}
@@ -91,7 +91,8 @@ ten-taken β bs s =
     let d : length (bytesAfter bs) ≡ length bs - 2 * usedOf (commandAnswer (wordsIn bs)) = length-drop _ bs in
     omega arith
 
-most-first : (t : Bool) (n left size : ℕ) (rest : List ℕ) → 0 < size → (t ≡ false → left + 10 ≤ size) → 10 * length rest ≤ left + 9 → 10 * length (n ∷ cond t [] rest) ≤ size + 9
+most-first : (t : Bool) (n left size : ℕ) (rest : List ℕ) → 0 < size → (t ≡ false → left + 10 ≤ size) → 10 * length rest ≤ left + 9
+    → 10 * length (n ∷ cond t [] rest) ≤ size + 9
 most-first true n left size rest p h ih = omega arith
 most-first false n left size rest p h ih = let l = h refl in omega arith
 
@@ -139,7 +140,8 @@ drop-replicate zero m = ap (λ (k : ℕ). replicate k 0) (let e : m ≡ m - 0 = 
 drop-replicate (suc n) zero = ap (λ (k : ℕ). replicate k 0) (let e : 0 ≡ 0 - suc n = omega arith in e)
 drop-replicate (suc n) (suc m) = drop-replicate n m ∙ ap (λ (k : ℕ). replicate k 0) (let e : m - n ≡ suc m - suc n = omega arith in e)
 
-stored-padded : (first n : ℕ) (l answers : List ℕ) → length l ≡ n → answers ≡ take n l ++ drop n (replicate 6554 0) → record { first = first; count = n; answers = answers } ≡ padded first l
+stored-padded : (first n : ℕ) (l answers : List ℕ) → length l ≡ n → answers ≡ take n l ++ drop n (replicate 6554 0)
+    → record { first = first; count = n; answers = answers } ≡ padded first l
 unfolding padded
 stored-padded first n l answers e q =
     let a : answers ≡ l ++ replicate (6554 - length l) 0 =
@@ -149,18 +151,23 @@ stored-padded first n l answers e q =
 
 -- ---- the loop
 
--- so many commands in bytes are answered, and so many words are behind them
-pub record Answered (bytes : List ℕ) (count at : ℕ) (β : Board) (answers : List ℕ) : Type 0 where
+-- so many commands in bytes are answered, and the words `rest` are left
+pub record Answered (bytes : List ℕ) (count : ℕ) (β : Board) (answers rest : List ℕ) : Type 0 where
+  -- the words behind them
+  pub at : ℕ
+  pub words : rest ≡ drop at (wordsIn bytes)
   pub five : 5 * count ≤ at
   pub within : 2 * at ≤ length bytes
   pub there : count ≤ length (answersOn bytes)
   pub left : drop count (answersOn bytes) ≡ answersTo (length bytes - count) β (drop (2 * at) bytes)
   pub stored : answers ≡ take count (answersOn bytes) ++ drop count (replicate 6554 0)
 
-pub answered-none : (bytes : List ℕ) (β : Board) → β ≡ freshBoard 0 0 → Answered bytes 0 0 β (replicate 6554 0)
+pub answered-none : (bytes : List ℕ) (β : Board) → β ≡ freshBoard 0 0 → (rest : List ℕ) → rest ≡ wordsIn bytes → Answered bytes 0 β (replicate 6554 0) rest
 unfolding answersOn
-answered-none bytes β e =
+answered-none bytes β e rest w =
     record {
+      at = 0;
+      words = w;
       five = omega arith;
       within = omega arith;
       there = omega arith;
@@ -173,30 +180,42 @@ pub fresh-up : boardFor (powerUpAnswer 0) 0 0 ≡ freshBoard 0 0
 unfolding powerUpAnswer
 fresh-up = refl
 
--- no byte is left
-pub answered-end : (bytes : List ℕ) (count at : ℕ) (β : Board) (answers : List ℕ) → Answered bytes count at β answers → length bytes ≤ 2 * at → record { first = 1; count = count; answers = answers } ≡ padded 1 (answersOn bytes)
-answered-end bytes count at β answers g h =
-    let e : drop count (answersOn bytes) ≡ [] = g .left ∙ answers-none _ β (drop (2 * at) bytes) (length-drop (2 * at) bytes ∙ omega arith) in
-    let n : length (answersOn bytes) - count ≡ 0 = sym (length-drop count (answersOn bytes)) ∙ ap length e in
-    let t = g .there in
-    stored-padded 1 count (answersOn bytes) answers (omega arith) (g .stored)
+module _ (bytes : List ℕ) (count : ℕ) (β : Board) (answers rest : List ℕ) (g : Answered bytes count β answers rest) where
+  pub length-rest : length rest ≡ length bytes / 2 - g .at
+  length-rest = ap length (g .words) ∙ length-drop (g .at) (wordsIn bytes) ∙ ap (λ (k : ℕ). k - g .at) (length-words bytes)
 
--- a turn: the board obeys the words w that are left, as d says, and its answer's number is n
-pub record Turn (bytes : List ℕ) (count at : ℕ) (β : Board) (answers w : List ℕ) (d : Obedience) (n : ℕ) : Type 0 where
+  -- no byte is left
+  pub answered-end : length rest + length bytes % 2 ≡ 0 → record { first = 1; count = count; answers = answers } ≡ padded 1 (answersOn bytes)
+  answered-end h =
+      let r = length-rest in
+      let w = g .within in
+      let e : drop count (answersOn bytes) ≡ [] = g .left ∙ answers-none _ β (drop (2 * g .at) bytes) (length-drop (2 * g .at) bytes ∙ omega arith) in
+      let n : length (answersOn bytes) - count ≡ 0 = sym (length-drop count (answersOn bytes)) ∙ ap length e in
+      let t = g .there in
+      stored-padded 1 count (answersOn bytes) answers (omega arith) (g .stored)
+
+-- a turn: the board obeys the words that are left, as d says, and its answer's number is n
+pub record Turn (bytes : List ℕ) (count : ℕ) (β : Board) (answers rest : List ℕ) (d : Obedience) (n : ℕ) : Type 0 where
   pub short : length bytes ≤ 65536
-  pub before : Answered bytes count at β answers
-  pub more : 2 * at < length bytes
-  pub words : w ≡ drop at (wordsIn bytes)
-  pub obeys : Obeys β w d
+  pub before : Answered bytes count β answers rest
+  pub more : 0 < length rest + length bytes % 2
+  pub obeys : Obeys β rest d
   pub number : n ≡ numberGiven (answerOnPaper (d .answer))
 
-module _ (bytes : List ℕ) (count at : ℕ) (β : Board) (answers w : List ℕ) (d : Obedience) (n : ℕ) (t : Turn bytes count at β answers w d n) where
+module _ (bytes : List ℕ) (count : ℕ) (β : Board) (answers rest : List ℕ) (d : Obedience) (n : ℕ) (t : Turn bytes count β answers rest d n) where
+  at : ℕ
+  at = t .before .at
+
   part : List ℕ
   part = drop (2 * at) bytes
 
-  words-part : w ≡ wordsIn part
-  unfolding part
-  words-part = t .words ∙ sym (words-left at bytes)
+  byte-left : 2 * at < length bytes
+  unfolding at
+  byte-left = let r = length-rest bytes count β answers rest (t .before) in let w = t .before .within in let m = t .more in omega arith
+
+  words-part : rest ≡ wordsIn part
+  unfolding at part
+  words-part = t .before .words ∙ sym (words-left (t .before .at) bytes)
 
   number-part : n ≡ numberFor β part
   number-part = t .number ∙ ap numberGiven (t .obeys .answer) ∙ ap (λ (v : List ℕ). numberGiven (decided v (situationOf β))) words-part
@@ -205,19 +224,20 @@ module _ (bytes : List ℕ) (count at : ℕ) (β : Board) (answers w : List ℕ)
   after = answersTo (length bytes - suc count) (ranOut (boardAfter β (wordsIn part))) (bytesAfter part)
 
   answers-part : drop count (answersOn bytes) ≡ n ∷ cond (stops n) [] after
-  unfolding part after
+  unfolding at part after
   answers-part =
       let f = t .before .five in
-      let h = t .more in
+      let h : 2 * t .before .at < length bytes = byte-left in
       let e : length bytes - count ≡ suc (length bytes - suc count) = omega arith in
       t .before .left
       ∙ ap (λ (m : ℕ). answersTo m β part) e
-      ∙ answers-first (length bytes - suc count) β part (rw (length-drop (2 * at) bytes) (omega arith))
+      ∙ answers-first (length bytes - suc count) β part (rw (length-drop (2 * t .before .at) bytes) (omega arith))
       ∙ ap (λ (x : ℕ). x ∷ cond (stops x) [] after) (sym number-part)
 
   -- there is room for n, and it is one of the answers
   pub room : count < 6554
-  room = let f = t .before .five in let h = t .more in let s = t .short in omega arith
+  unfolding at
+  room = let f = t .before .five in let h : 2 * t .before .at < length bytes = byte-left in let s = t .short in omega arith
 
   longer : count < length (answersOn bytes)
   longer = part-longer (answersOn bytes) count n _ answers-part
@@ -236,35 +256,47 @@ module _ (bytes : List ℕ) (count at : ℕ) (β : Board) (answers w : List ℕ)
       let l = longer in
       rw (add-one count) (stored-padded 1 (suc count) (answersOn bytes) (set answers count n) (omega arith) stored-more)
 
-  -- there may be others
-  module _ (s : stops n ≡ false) where
-    pub used-enough : 5 ≤ d .used
-    used-enough = rw (t .obeys .used) (five-used w (situationOf β) (ap (λ (a : Answer Command). stops (numberGiven a)) (sym (t .obeys .answer)) ∙ ap stops (sym (t .number)) ∙ s))
+  -- there may be others: the listing goes on with the words left that the reader hands back
+  module _ (s : stops n ≡ false) (left : List ℕ) (el : left ≡ drop (d .used) rest) where
+    used-enough : 5 ≤ d .used
+    used-enough =
+        rw (t .obeys .used)
+        (five-used rest (situationOf β) (ap (λ (a : Answer Command). stops (numberGiven a)) (sym (t .obeys .answer)) ∙ ap stops (sym (t .number)) ∙ s))
 
-    pub used-there : 2 * (at + d .used) ≤ length bytes
-    used-there =
-        let h = t .more in
-        let f = used-fits w in
-        let l : length w ≡ length bytes / 2 - at = ap length (t .words) ∙ length-drop at (wordsIn bytes) ∙ ap (λ (k : ℕ). k - at) (length-words bytes) in
-        rw (t .obeys .used) (omega arith)
+    used-there : d .used ≤ length rest
+    used-there = rw (t .obeys .used) (used-fits rest)
+
+    -- they are fewer
+    pub fewer-left : length left < length rest
+    fewer-left =
+        let u = used-enough in
+        let f = used-there in
+        let k : length left ≡ length rest - d .used = ap length el ∙ length-drop (d .used) rest in
+        omega arith
 
     -- the place after the command
     place-after : 2 * at + 2 * usedOf (commandAnswer (wordsIn part)) ≡ 2 * (at + d .used)
-    place-after = let u : d .used ≡ usedOf (commandAnswer (wordsIn part)) = t .obeys .used ∙ ap (λ (v : List ℕ). usedOf (commandAnswer v)) words-part in omega arith
+    place-after =
+        let u : d .used ≡ usedOf (commandAnswer (wordsIn part)) = t .obeys .used ∙ ap (λ (v : List ℕ). usedOf (commandAnswer v)) words-part in
+        omega arith
 
-    pub answered-more : (γ : Board) → γ ≡ ranOut (d .board) → Answered bytes (count + 1) (at + d .used) γ (set answers count n)
-    unfolding part after
+    pub answered-more : (γ : Board) → γ ≡ ranOut (d .board) → Answered bytes (count + 1) γ (set answers count n) left
+    unfolding at part after
     answered-more γ e =
         let f = t .before .five in
         let u = used-enough in
+        let v = used-there in
+        let r = length-rest bytes count β answers rest (t .before) in
         let l = longer in
         let eβ : ranOut (boardAfter β (wordsIn part)) ≡ γ = sym (e ∙ ap ranOut (t .obeys .board ∙ ap (boardAfter β) words-part)) in
         let ep : bytesAfter part ≡ drop (2 * (at + d .used)) bytes =
         drop-drop (2 * usedOf (commandAnswer (wordsIn part))) (2 * at) bytes ∙ ap (λ (k : ℕ). drop k bytes) place-after in
         rw (add-one count)
         record {
+          at = t .before .at + d .used;
+          words = el ∙ ap (drop (d .used)) (t .before .words) ∙ drop-drop (d .used) (t .before .at) (wordsIn bytes);
           five = omega arith;
-          within = used-there;
+          within = omega arith;
           there = omega arith;
           left = part-after (answersOn bytes) count n _ answers-part ∙ rw s (ap₂ (answersTo (length bytes - suc count)) eβ ep);
           stored = stored-more;
@@ -273,7 +305,8 @@ module _ (bytes : List ℕ) (count at : ℕ) (β : Board) (answers w : List ℕ)
 -- ---- the listing of bytes
 
 -- 32,768 words have room for those of 65,536 bytes
-pub words-written : (bytes out after : List ℕ) (r : Written) → length bytes ≤ 65536 → length out ≡ 32768 → Wrote [] (wordsIn bytes) out r after → take (length bytes / 2) after ≡ wordsIn bytes
+pub words-written : (bytes out after : List ℕ) (r : Written) → length bytes ≤ 65536 → length out ≡ 32768 → Wrote [] (wordsIn bytes) out r after
+    → take (length bytes / 2) after ≡ wordsIn bytes
 unfolding writing
 words-written bytes out after r short size w =
     let n = length-words bytes in
@@ -297,7 +330,11 @@ module _ (bytes : List ℕ) where
     where
       go : (t : Bool) → ltb 65536 (length bytes) ≡ t → cond t (padded 0 (6 ∷ [])) (padded 1 (answersOn bytes)) .count ≤ 6554
       go true h = omega arith
-      go false h = let s : length bytes ≤ 65536 = ltb-false 65536 (length bytes) h in let m = answers-most (length bytes) (freshBoard 0 0) bytes in let g : length (answersOn bytes) ≤ 6554 = omega arith in g
+      go false h =
+          let s : length bytes ≤ 65536 = ltb-false 65536 (length bytes) h in
+          let m = answers-most (length bytes) (freshBoard 0 0) bytes in
+          let g : length (answersOn bytes) ≤ 6554 = omega arith in
+          g
 
   least-listed : listed bytes .first ≤ 1
   unfolding listed padded

@@ -8,6 +8,7 @@ ghost use Rattle.stream.specs.Stream.{timeUps, ranOut, numberGiven, stop
 use acceptance::CommandAnswer;
 use board::Board;
 use board::power_up;
+use command_reader::rest_after;
 use words::words_from_bytes;
 
 // The answers to the commands of a stream, in their order.
@@ -72,11 +73,11 @@ fn answers_on(bytes: &[u8], words: &[u16]) -> Listing
     let mut board = up.board;
     let mut answers = [0u8; 6554];
     let mut count = 0;
-    let mut at = 0;
-    // An odd byte at the end is no word, and what is left there still gets an answer.
-    let end = (bytes.len() + 1) / 2;
-    while at < end {
-        let done = board.obey(&words[at..]);
+    let mut rest = words;
+    // An odd byte at the end is no word, and where it alone is left there is still an answer.
+    let odd = bytes.len() % 2;
+    while 0 < rest.len() + odd {
+        let done = board.obey(rest);
         let answer = done.answer;
         let number = number_given(answer);
         answers[count] = number;
@@ -88,7 +89,8 @@ fn answers_on(bytes: &[u8], words: &[u16]) -> Listing
                 answers,
             };
         }
-        at += done.used;
+        let after = rest_after(rest, done.used);
+        rest = after;
         board = run_out(done.board);
     }
     Listing {

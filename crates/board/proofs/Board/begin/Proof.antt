@@ -1,6 +1,5 @@
 -- `board::Board::begin` meets its contract. Assumes nothing.
 use denote.Ref.{now}
-use Rattle.board.specs.Commands.{blockIn}
 use Rattle.board.proofs.Obeying.{begun-as}
 use borrow.Author.Needs.{needs}
 use Rattle.board.proofs.Board.begin.Statement.{statement}
@@ -25,7 +24,12 @@ begin-all-requires : tie.Need-begin-all-requires
 begin-all-requires c κs = search needs
 
 returns : tie.Need-returns
-returns c = begun-as (c .before .before .before .before .before .before .before .before .before .before .before .before .args .self) (blockIn (now (c .before .before .before .before .before .before .before .before .before .before .before .before .args .words))) _ _ _ _ _ _ (c .before .before .before .before .before .before .before .before .before .before .before .before .args .is-write) (c .before .before .before .before .before .kind-of .ensures) (c .before .before .before .before .run-after .ensures) (c .before .before .before .block-after .ensures) (c .before .before .active-words .ensures) (c .before .active-after .ensures) (c .begin-all .ensures)
+returns c =
+    let at-words = c .before .before in
+    let at-kind = at-words .before .before .before in
+    let a = at-kind .before .before .before .before .before .before .before .args in
+    begun-as (a .self) (now (a .command-block)) _ _ _ _ _ _ (a .is-write) (at-kind .kind-of .ensures) (at-words .before .before .run-after .ensures)
+    (at-words .before .block-after .ensures) (at-words .active-words .ensures) (c .before .active-after .ensures) (c .begin-all .ensures)
 
 pub begin-spec : {M : Type 1} → statement M
 begin-spec =

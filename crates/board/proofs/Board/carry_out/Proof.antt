@@ -2,7 +2,7 @@
 use denote.Ref.{now}
 use mathlib.Core.Path.{refl, ap}
 use Rattle.board.specs.State.{withRun}
-use Rattle.board.proofs.Obeying.{write-long, after-refusal, after-obeyed, after-pass}
+use Rattle.board.proofs.Obeying.{after-refusal, after-obeyed, after-pass, write-whole}
 use borrow.Author.Needs.{needs}
 use Rattle.board.proofs.Board.carry_out.Statement.{statement}
 use Rattle.board.proofs.Board.carry_out.Tie as tie
@@ -39,20 +39,20 @@ begin-requires c κs =
     let told = c .before .before .before in
     let start = told .before .before .before .before in
     let a = start .args in
-    write-long (a .self) (now (a .words)) (a .answer) (start .pre) _ (told .answer .given .1) _ (c .is-write .ensures)
+    write-whole (a .self) (now (a .block)) (a .answer) (start .pre) _ (told .answer .given .1) _ (c .is-write .ensures)
 
 returns : tie.Need-returns
 returns c =
     let start = c .before .before .before .before in
     let a = start .args in
-    after-refusal (a .self) (now (a .words)) (a .answer) (start .pre) _ (c .enum-told .given .1)
+    after-refusal (a .self) (now (a .block)) (a .answer) _ (c .enum-told .given .1)
 
 returns-2 : tie.Need-returns-2
 returns-2 c =
     let told = c .before .before .before in
     let start = told .before .before .before .before in
     let a = start .args in
-    after-obeyed (a .self) (now (a .words)) (a .answer) (start .pre) _ _ (told .answer .given .1) (c .enum-told2 .given .1) _ refl
+    after-obeyed (a .self) (now (a .block)) (a .answer) _ _ (told .answer .given .1) (c .enum-told2 .given .1) _ refl
 
 returns-3 : tie.Need-returns-3
 unfolding withRun
@@ -60,7 +60,7 @@ returns-3 c =
     let told = c .before .before .before .before .before in
     let start = told .before .before .before .before in
     let a = start .args in
-    after-obeyed (a .self) (now (a .words)) (a .answer) (start .pre) _ _ (told .answer .given .1)
+    after-obeyed (a .self) (now (a .block)) (a .answer) _ _ (told .answer .given .1)
     (c .before .before .c .given .1) _ (ap (withRun (a .self)) (c .start .ensures))
 
 returns-4 : tie.Need-returns-4
@@ -69,7 +69,7 @@ returns-4 c =
     let told = c .before .before .before .before in
     let start = told .before .before .before .before in
     let a = start .args in
-    after-obeyed (a .self) (now (a .words)) (a .answer) (start .pre) _ _ (told .answer .given .1)
+    after-obeyed (a .self) (now (a .block)) (a .answer) _ _ (told .answer .given .1)
     (c .before .enum-told3 .given .1) _ (ap (withRun (a .self)) (c .stop .ensures))
 
 returns-5 : tie.Need-returns-5
@@ -77,14 +77,14 @@ returns-5 c =
     let told = c .before .before .before in
     let start = told .before .before .before .before in
     let a = start .args in
-    after-obeyed (a .self) (now (a .words)) (a .answer) (start .pre) _ _ (told .answer .given .1) (c .enum-told4 .given .1) _ refl
+    after-obeyed (a .self) (now (a .block)) (a .answer) _ _ (told .answer .given .1) (c .enum-told4 .given .1) _ refl
 
 returns-6 : tie.Need-returns-6
 returns-6 c =
     let told = c .before .before .before .before in
     let start = told .before .before .before .before in
     let a = start .args in
-    after-pass (a .self) (now (a .words)) (a .answer) (start .pre) (told .answer .given .0 .0) (told .answer .given .1)
+    after-pass (a .self) (now (a .block)) (a .answer) (told .answer .given .0 .0) (told .answer .given .1)
     (c .before .before .match2 .keys5) _ (c .before .is-write .ensures) _ (c .begin .ensures)
 
 pub carry-out-spec : {M : Type 1} → statement M

@@ -1,10 +1,10 @@
--- `board::block_in` meets its contract. Assumes nothing.
+-- `board::stored` meets its contract. Assumes nothing.
 use denote.Ref.{now}
 use mathlib.Core.Path.{_∙_}
 use Rattle.board.proofs.Obeying.{block-copied}
 use borrow.Author.Needs.{needs}
-use Rattle.board.proofs.block_in.Statement.{statement}
-use Rattle.board.proofs.block_in.Tie as tie
+use Rattle.board.proofs.stored.Statement.{statement}
+use Rattle.board.proofs.stored.Tie as tie
 
 sub-copy-words : tie.Need-sub-copy-words
 sub-copy-words c = search needs
@@ -22,10 +22,12 @@ copy-words-requires : tie.Need-copy-words-requires
 copy-words-requires c κs = search needs
 
 returns : tie.Need-returns
-returns c = c .before .copy-words .ensures ∙ block-copied (now (c .before .before .before .before .before .args .words)) (c .before .before .before .before .before .pre)
+returns c =
+    let start = c .before .before .before .before .before in
+    c .before .copy-words .ensures ∙ block-copied (now (start .args .block)) (start .pre)
 
-pub block-in-spec : {M : Type 1} → statement M
-block-in-spec =
+pub stored-spec : {M : Type 1} → statement M
+stored-spec =
     tie.close
     (tie.spec
     sub-copy-words
