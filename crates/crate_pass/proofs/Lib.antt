@@ -3,3 +3,4 @@ pub mod Next
 pub mod Serving
 pub mod Entries
 pub mod Tables
+pub mod Apart
