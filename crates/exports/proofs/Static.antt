@@ -6,7 +6,7 @@ use mathlib.Core.Path.{_≡_, refl, sym, ap, _∙_}
 use mathlib.Core.List.{List, [], _∷_, _++_, append-nil}
 use lib.ListN.{length, take, drop, replicate, length-append, drop-of-length-le}
 use borrow.Author.Tests.{eq-eqb}
-use Rattle.refusals.specs.Tables.{Answer, given, rule}
+use Rattle.refusals.specs.Tables.{Answer, given, refused, rule}
 use Rattle.refusals.specs.Writing.{writtenOnPaper}
 use Rattle.refusals.specs.declared.Refusal.{Refusal}
 use Rattle.refusals.specs.declared.Refusal.the-variants.{WrongLength}
@@ -21,12 +21,14 @@ use Rattle.bounds.specs.Bounds.{boundOf, lentRules}
 use Rattle.bounds.proofs.Lent.{lent-6, lent-within}
 use Rattle.blocks.specs.Blocks.{headerWords, staticRules, blockRules, WroteBlock}
 use Rattle.blocks.proofs.Laws.{block-own, block-clear}
+use Rattle.blocks.proofs.Tables.{block-exactly}
 use Rattle.block_reader.specs.Reading.{readOnPaper, blockAnswer}
 use Rattle.block_reader.specs.declared.Kind.the-variants.{Static}
 use Rattle.block_reader.specs.declared.BlockRead.{BlockRead}
 use Rattle.block_reader.specs.declared.BlockRead.the-variants.{Refused as Unread}
 use Rattle.round_trips.specs.Blocks.{ReadsBack}
 use Rattle.round_trips.proofs.Blocks.{written-back}
+use Rattle.board.proofs.Answers.{applies-between}
 use Rattle.exports.specs.Exports.{answerNumber, headerOfZeros, staticAnswer, StaticRound}
 
 -- 6 and then the rows of a static block: the writer's answer w, and what the lent words `out` became
@@ -92,3 +94,10 @@ module _ (block stored out : List ℕ) (l : length block ≡ 436) (es : stored �
         wrote = wrote-alike-by (rule 6 _ ∷ []) [] _ (headerWords headerOfZeros ++ block) out w after tt (simp (eq-eqb _ _ l), tt) (q .wrote);
         size = q .size;
       }
+
+-- every refusal has a number of 6 or more: 0 is given exactly where the block is written
+pub static-numbers : (block out : List ℕ) (n p : ℕ) → staticAnswer block out ≡ refused n p → 6 ≤ n
+unfolding blockRules lentRules
+static-numbers block out n p e =
+    let table = blockRules (lentRules boundOf 436 block) headerOfZeros block out in
+    applies-between 6 20 table tt n p (block-exactly (lentRules boundOf 436 block) headerOfZeros block out tt .refused-only n p e .0) .0
