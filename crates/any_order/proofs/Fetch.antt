@@ -9,7 +9,7 @@ use lib.Dec.{ltb, leb}
 use lib.ListN.{length, take, drop}
 use borrow.Author.Tests.{ltb-true, ltb-false, le-ltb, lt-leb, le-leb}
 use Rattle.refusals.specs.Tables.{given, refused, Rule, rule, lowest}
-use Rattle.refusals.specs.Writing.{writingRules, writing, Wrote}
+use Rattle.refusals.specs.Writing.{writingBy, writingRules, writing, Wrote}
 use Rattle.refusals.specs.declared.Written.the-variants.{Length}
 use Rattle.refusals.proofs.Tables.{Clear, clear-given, given-clear, clear-front}
 use Rattle.refusals.proofs.Writing.{wrote, wrote-front}
@@ -61,10 +61,10 @@ pub record FetchGives (β : Board) (c : ℕ) (out : List ℕ) : Type 0 where
 
 given-fetched : (β : Board) (c n : ℕ) (out : List ℕ) → writing (fetchRules β c) (frameAt β c) out ≡ given n
     → fetched β c ≡ frameAt β c ∷ []
-unfolding fetched writing
+unfolding fetched writingBy writingRules
 given-fetched β c n out e =
-    let clear : Clear (writingRules (fetchRules β c) (frameAt β c) out) =
-    given-clear (writingRules (fetchRules β c) (frameAt β c) out) (length (frameAt β c)) n e in
+    let table = writingRules (fetchRules β c) (frameAt β c) out in
+    let clear : Clear table = given-clear table (length (frameAt β c)) n e in
     ap framesGiven
     (clear-given (fetchRules β c) (frameAt β c) (clear-front (fetchRules β c) (rule 19 (ltb (length out) (length (frameAt β c))) ∷ []) clear))
 
@@ -80,5 +80,5 @@ fetch-gives β c out h =
     record {
       gives = fetched-given β c out h;
       gives-only = λ n e. given-fetched β c n out e;
-      front = λ n after w. wrote-front (fetchRules β c) (frameAt β c) out n after w;
+      front = λ n after w. wrote-front _ (frameAt β c) out n after w;
     }

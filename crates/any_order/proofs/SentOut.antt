@@ -8,11 +8,11 @@ use native.Mathlib.Omega.{arith}
 use lib.Dec.{leb}
 use lib.ListN.{length, getD, length-append, length-map}
 use borrow.Author.Tests.{leb-false}
-use Rattle.refusals.specs.Tables.{Answer, given, refused, Rule, rule, lowest}
-use Rattle.refusals.specs.Writing.{writing, laid, Wrote}
-use Rattle.refusals.proofs.Tables.{Clear, given-clear, refused-more}
+use Rattle.refusals.specs.Tables.{Rule, rule}
+use Rattle.refusals.proofs.Tables.{Clear}
 use Rattle.refusals.specs.declared.Written.{Written}
-use Rattle.blocks.specs.Blocks.{headerWords, failureBody}
+use Rattle.blocks.specs.Blocks.{failureBody, WroteBlock}
+use Rattle.blocks.proofs.Laws.{block-body}
 use Rattle.blocks.specs.declared.Header.{Header}
 use Rattle.ftu_list.specs.List.{listBody}
 use Rattle.ftu_list.specs.declared.Entry.{Entry}
@@ -23,7 +23,7 @@ use Rattle.crate_pass.specs.declared.Crate.{Crate}
 use Rattle.four_crates.specs.FourCrates.{inPass, entriesOf, failure, records, recordAt}
 use Rattle.four_crates.proofs.Entries.{same-list}
 use Rattle.board.specs.State.{crateAt}
-use Rattle.board.specs.SentOut.{headerOf, listRules, listOf, listDue, failureRules, failedFrame, failureDue}
+use Rattle.board.specs.SentOut.{headerOf, listRules, listOf, failureRules, failedFrame, failureBodyOf, SendsList, SendsFailure}
 use Rattle.board.specs.declared.Board.{Board}
 use Rattle.cells.specs.Order.{only}
 use Rattle.any_order.specs.AnyOrder.{Item, itemCrate, Begin, write, ping, Accepted, startOf, blockOf, wordOf, activeOf, begunBoard, final}
@@ -156,33 +156,6 @@ list-begun β (ping w) a = list-ping β w a [] ∙ ping-begun β w
 
 -- ---- as the calls answer it
 
--- where a row of the writer's own table applies, what would be due does not matter
-data Decided (rules : List Rule) : Type 0 where
-  clear : Clear rules → Decided rules
-  applies : (n p : ℕ) → lowest {A = ℕ} rules 0 ≡ refused n p → Decided rules
-
-decided : (rules : List Rule) → Decided rules
-decided rules = go (lowest {A = ℕ} rules 0) refl
-  where
-    go : (x : Answer ℕ) → lowest {A = ℕ} rules 0 ≡ x → Decided rules
-    go (given b) e = clear (given-clear rules 0 b e)
-    go (refused n p) e = applies n p e
-
-module _ (rules : List Rule) (due due′ out : List ℕ) (r : Written) (after : List ℕ) where
-  wrote-due : (Clear rules → due ≡ due′) → Wrote rules due out r after → Wrote rules due′ out r after
-  unfolding writing
-  wrote-due same w = go (decided rules)
-    where
-      go : Decided rules → Wrote rules due′ out r after
-      go (clear c) = subst (λ (d : List ℕ). Wrote rules d out r after) (same c) w
-      go (applies n p e) =
-          let q : writing rules due out ≡ refused n p = refused-more rules _ 0 (length due) n p e in
-          let q′ : writing rules due′ out ≡ refused n p = refused-more rules _ 0 (length due′) n p e in
-          record {
-            answer = w .answer ∙ q ∙ sym q′;
-            output = w .output ∙ ap (λ (x : Answer ℕ). laid x due out) q ∙ sym (ap (λ (x : Answer ℕ). laid x due′ out) q′);
-          }
-
 getD-mapped : {A : Type 0} (f : A → List ℕ) (l : List A) (n : ℕ) (d : A) → n < length l → f (getD l n d) ≡ getD (map f l) n []
 getD-mapped f [] n d h = absurd (omega arith)
 getD-mapped f (x ∷ l) zero d h = refl
@@ -196,24 +169,22 @@ module _ (β : Board) (g : Begin) (a : Accepted β g) (xs : List Item) where
       getD-mapped (recordFrame (last β g a xs .block) (last β g a xs .crates)) (records (last β g a xs .crates)) n (failure 0 0) h
       ∙ ap (λ (fs : List (List ℕ)). getD fs n []) (failures-are β g a xs)
 
-  due-is : (n : ℕ) → Clear (failureRules (last β g a xs) n)
-      → failureDue (last β g a xs) n ≡ headerWords (headerOf β) ++ failureBody 3 (getD (failures β g xs) n [])
-  due-is n c =
-      ap₂ (λ (h : Header) (frame : List ℕ). headerWords h ++ failureBody 3 frame) (header-is β g a xs)
-      (frame-is n (leb-false _ _ (c .1 .0)))
+  body-is : (n : ℕ) → Clear (failureRules (last β g a xs) n) → failureBodyOf (last β g a xs) n ≡ failureBody 3 (getD (failures β g xs) n [])
+  body-is n c = ap (failureBody 3) (frame-is n (leb-false _ _ (c .1 .0)))
 
-  pub records-given : (n : ℕ) (out : List ℕ) (r : Written) (after : List ℕ)
-      → Wrote (failureRules (last β g a xs) n) (failureDue (last β g a xs) n) out r after
-      → Wrote (recordRules β g n xs) (headerWords (headerOf β) ++ failureBody 3 (getD (failures β g xs) n [])) out r after
+  pub records-given : (n : ℕ) (out : List ℕ) (r : Written) (after : List ℕ) → SendsFailure (last β g a xs) n out r after
+      → WroteBlock (recordRules β g n xs) 29 (headerOf β) (failureBody 3 (getD (failures β g xs) n [])) out r after
   records-given n out r after w =
-      subst (λ (rules : List Rule). Wrote rules (headerWords (headerOf β) ++ failureBody 3 (getD (failures β g xs) n [])) out r after)
-      (record-rules β g a xs n)
-      (wrote-due (failureRules (last β g a xs) n) (failureDue (last β g a xs) n) _ out r after (due-is n) w)
+      let own = failureRules (last β g a xs) n in
+      let body = failureBody 3 (getD (failures β g xs) n []) in
+      let same = block-body own 29 (headerOf (last β g a xs)) (failureBodyOf (last β g a xs) n) body out r after (body-is n) w in
+      subst (λ (rules : List Rule). WroteBlock rules 29 (headerOf β) body out r after) (record-rules β g a xs n)
+      (subst (λ (h : Header). WroteBlock own 29 h body out r after) (header-is β g a xs) same)
 
-  pub list-given : (out : List ℕ) (r : Written) (after : List ℕ)
-      → Wrote (listRules (last β g a xs)) (listDue (last β g a xs)) out r after
-      → Wrote (duringPass β g xs ∷ []) (headerWords (headerOf β) ++ listAfter β g xs) out r after
+  pub list-given : (out : List ℕ) (r : Written) (after : List ℕ) → SendsList (last β g a xs) out r after
+      → WroteBlock (duringPass β g xs ∷ []) 249 (headerOf β) (listAfter β g xs) out r after
   list-given out r after w =
-      subst (λ (t : Bool). Wrote (rule 9 t ∷ []) (headerWords (headerOf β) ++ listAfter β g xs) out r after) (in-pass β g a xs)
-      (subst (λ (due : List ℕ). Wrote (listRules (last β g a xs)) due out r after)
-      (ap₂ (λ (h : Header) (l : List ℕ). headerWords h ++ l) (header-is β g a xs) (list-is β g a xs)) w)
+      let own = listRules (last β g a xs) in
+      let same = subst (λ (body : List ℕ). WroteBlock own 249 (headerOf (last β g a xs)) body out r after) (list-is β g a xs) w in
+      subst (λ (t : Bool). WroteBlock (rule 9 t ∷ []) 249 (headerOf β) (listAfter β g xs) out r after) (in-pass β g a xs)
+      (subst (λ (h : Header). WroteBlock own 249 h (listAfter β g xs) out r after) (header-is β g a xs) same)

@@ -7,10 +7,9 @@ use mathlib.Core.List.{List, [], _∷_, _++_, map}
 use lib.Dec.{ltb, leb}
 use lib.ListN.{length, getD, take, drop, replicate}
 use Rattle.refusals.specs.Tables.{Answer, given, refused, Rule, rule, lowest}
-use Rattle.refusals.specs.Writing.{Wrote}
 use Rattle.refusals.specs.declared.Written.{Written}
 use Rattle.commands.specs.declared.Command.the-variants.{Write, Ping}
-use Rattle.blocks.specs.Blocks.{headerWords, failureBody}
+use Rattle.blocks.specs.Blocks.{failureBody, WroteBlock}
 use Rattle.ftu_list.specs.List.{listBody}
 use Rattle.steps.specs.Steps.{stepFrame}
 use Rattle.steps.specs.declared.Heard.{Heard}
@@ -23,7 +22,7 @@ use Rattle.crate_pass.specs.declared.Crate.{Crate}
 use Rattle.board.specs.State.{crateAt, isIdle}
 use Rattle.board.specs.Commands.{boardAnswer, boardAfter}
 use Rattle.board.specs.SlowControl.{frameAt, fetchRules, replyAnswer, boardReplied, sentAnswer}
-use Rattle.board.specs.SentOut.{headerOf, listRules, listOf, listDue, failureRules, failureDue}
+use Rattle.board.specs.SentOut.{headerOf, listOf, SendsList, SendsFailure}
 use Rattle.board.specs.declared.Board.{Board}
 use Rattle.cells.specs.Order.{only, from, ordered}
 use Rattle.any_order.specs.Steps.{Step, step, steps, servedFrom, Event, heard, wordsFrom, howMany}
@@ -289,12 +288,12 @@ pub record AnyOrder (β : Board) (g : Begin) (xs : List Item) : Type 0 where
   -- "records and, in a ping, list entries": what `failure_message` answers for each ordinal, and `ftu_list`, with any output lent, is by the table and
   -- with the words that the steps give
   pub records : (n : ℕ) (out : List ℕ) (r : Written) (after : List ℕ)
-      → Wrote (failureRules (boardAtEnd β g xs) n) (failureDue (boardAtEnd β g xs) n) out r after
-      → Wrote (recordRules β g n xs) (headerWords (headerOf β) ++ failureBody 3 (getD (failures β g xs) n [])) out r after
+      → SendsFailure (boardAtEnd β g xs) n out r after
+      → WroteBlock (recordRules β g n xs) 29 (headerOf β) (failureBody 3 (getD (failures β g xs) n [])) out r after
   pub records-most : length (failures β g xs) ≤ 40
   pub list : (out : List ℕ) (r : Written) (after : List ℕ)
-      → Wrote (listRules (boardAtEnd β g xs)) (listDue (boardAtEnd β g xs)) out r after
-      → Wrote (duringPass β g xs ∷ []) (headerWords (headerOf β) ++ listAfter β g xs) out r after
+      → SendsList (boardAtEnd β g xs) out r after
+      → WroteBlock (duringPass β g xs ∷ []) 249 (headerOf β) (listAfter β g xs) out r after
   -- the list itself, which `ftu_list` does not give during the pass
   pub list-kept : listBody (listOf (boardAtEnd β g xs)) ≡ listAfter β g xs
   -- "The rest of the final state is as in the first, but that the board is idle once all four are done"

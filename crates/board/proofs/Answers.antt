@@ -4,24 +4,26 @@ use Prim.Native.Nat.{ℕ, _≤_}
 use mathlib.Core.Path.{_≡_}
 use mathlib.Core.Bool.{Bool, true, false, _&&_}
 use mathlib.Core.Logic.{inl, inr}
-use mathlib.Core.List.{List, [], _∷_}
+use mathlib.Core.List.{List, [], _∷_, _++_}
 use native.Mathlib.Omega.{arith}
 use lib.Dec.{T, leb, leb→le}
 use Rattle.refusals.specs.Tables.{Answer, refused, Rule}
-use Rattle.refusals.specs.Writing.{writing}
+use Rattle.refusals.specs.Writing.{writingBy, writingRules, writing}
 use Rattle.refusals.proofs.Tables.{Applies, Exactly}
 use Rattle.packets.specs.declared.Fields.{Fields}
 use Rattle.bounds.specs.Bounds.{lentRules}
 use Rattle.command_reader.specs.Reading.{readRules}
 use Rattle.run.specs.Run.{triggerRules, triggerAnswer}
-use Rattle.blocks.specs.Blocks.{measurementRules}
+use Rattle.blocks.specs.Blocks.{headerWords, staticRules, measurementRules, blockRules}
+use Rattle.ftu_list.specs.List.{listBody}
 use Rattle.steps.specs.declared.Heard.{Heard}
 use Rattle.board.specs.State.{powerUpAnswer}
 use Rattle.board.specs.Commands.{boardAnswer}
 use Rattle.board.specs.SlowControl.{frameAt, fetchRules, replyAnswer, sentAnswer}
-use Rattle.board.specs.SentOut.{staticDue, dynamicDue, listRules, listDue, failureRules, failureDue}
+use Rattle.board.specs.SentOut.{headerOf, dynamicBodyOf, listRules, listOf, failureRules, failureBodyOf}
 use Rattle.board.specs.declared.Board.{Board}
-use Rattle.board.proofs.Tables.{power-up-exactly, command-exactly, trigger-exactly, reply-exactly, frame-exactly, sent-exactly, static-exactly, dynamic-exactly, list-exactly, failure-exactly}
+use Rattle.board.proofs.Tables.{power-up-exactly, command-exactly, trigger-exactly, reply-exactly, frame-exactly, sent-exactly}
+use Rattle.board.proofs.Tables.{static-exactly, dynamic-exactly, list-exactly, failure-exactly}
 
 -- each number of a table is from a to b
 abbrev between : ℕ → ℕ → List Rule → Bool
@@ -58,27 +60,35 @@ module _ (β : Board) where
   command-numbers w = refuses-from 1 10 (command-exactly β w) tt
 
   pub trigger-numbers : (f : Fields) (out : List ℕ) → RefusesFrom 15 19 (triggerAnswer (β .run) f out)
-  unfolding triggerRules
+  unfolding triggerRules writingRules
   trigger-numbers f out = refuses-from 15 19 (trigger-exactly β f out) tt
 
   pub reply-numbers : (i : ℕ) (h : Heard) → RefusesFrom 11 12 (replyAnswer β i h)
   reply-numbers i h = refuses-from 11 12 (reply-exactly β i h) tt
 
   pub frame-numbers : (i : ℕ) (out : List ℕ) → RefusesFrom 11 19 (writing (fetchRules β i) (frameAt β i) out)
+  unfolding writingRules
   frame-numbers i out = refuses-from 11 19 (frame-exactly β i out) tt
 
   pub sent-numbers : (i : ℕ) → RefusesFrom 11 11 (sentAnswer β i)
   sent-numbers i = refuses-from 11 11 (sent-exactly β i) tt
 
-  pub static-numbers : (out : List ℕ) → RefusesFrom 19 19 (writing [] (staticDue β) out)
-  static-numbers out = refuses-from 19 19 (static-exactly β out) tt
+  -- what the writer of a block of the board with these rows of its own answers
+  abbrev pub blockAnswer : List Rule → List ℕ → List ℕ → Answer ℕ
+  blockAnswer own body out = writingBy (blockRules own (headerOf β) body out) (headerWords (headerOf β) ++ body)
 
-  pub dynamic-numbers : (m out : List ℕ) → RefusesFrom 6 19 (writing (measurementRules m) (dynamicDue β m) out)
-  unfolding lentRules
-  dynamic-numbers m out = refuses-from 6 19 (dynamic-exactly β m out) tt
+  pub static-numbers : (out : List ℕ) → RefusesFrom 8 20 (blockAnswer (staticRules (β .block)) (β .block) out)
+  unfolding blockRules
+  static-numbers out = refuses-from 8 20 (static-exactly β out) tt
 
-  pub list-numbers : (out : List ℕ) → RefusesFrom 9 19 (writing (listRules β) (listDue β) out)
-  list-numbers out = refuses-from 9 19 (list-exactly β out) tt
+  pub dynamic-numbers : (m out : List ℕ) → RefusesFrom 6 20 (blockAnswer (measurementRules m) (dynamicBodyOf β m) out)
+  unfolding blockRules lentRules
+  dynamic-numbers m out = refuses-from 6 20 (dynamic-exactly β m out) tt
 
-  pub failure-numbers : (ordinal : ℕ) (out : List ℕ) → RefusesFrom 9 19 (writing (failureRules β ordinal) (failureDue β ordinal) out)
-  failure-numbers ordinal out = refuses-from 9 19 (failure-exactly β ordinal out) tt
+  pub list-numbers : (out : List ℕ) → RefusesFrom 9 20 (blockAnswer (listRules β) (listBody (listOf β)) out)
+  unfolding blockRules
+  list-numbers out = refuses-from 9 20 (list-exactly β out) tt
+
+  pub failure-numbers : (ordinal : ℕ) (out : List ℕ) → RefusesFrom 9 20 (blockAnswer (failureRules β ordinal) (failureBodyOf β ordinal) out)
+  unfolding blockRules
+  failure-numbers ordinal out = refuses-from 9 20 (failure-exactly β ordinal out) tt

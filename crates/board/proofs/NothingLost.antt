@@ -3,9 +3,9 @@
 use Prim.Native.Nat.{ℕ, _+_, _≤_}
 use mathlib.Core.Path.{_≡_, refl, sym, ap, _∙_}
 use mathlib.Core.Logic.{_⊎_, inl, inr, ⊎-elim}
-use mathlib.Core.List.{List, []}
+use mathlib.Core.List.{List}
 use native.Mathlib.Omega.{arith}
-use Rattle.refusals.specs.Tables.{Answer, given, refused, Rule, lowest}
+use Rattle.refusals.specs.Tables.{Answer, given, refused, lowest}
 use Rattle.refusals.specs.Writing.{Wrote, writtenOnPaper}
 use Rattle.refusals.specs.declared.Written.{Written}
 use Rattle.refusals.proofs.Tables.{refused-more, refused-applies}
@@ -19,22 +19,25 @@ use Rattle.command_reader.proofs.Used.{used-is}
 use Rattle.acceptance.specs.Acceptance.{stateRules, answerOnPaper, decided}
 use Rattle.acceptance.proofs.Deciding.{by-state}
 use Rattle.run.specs.Run.{triggerAnswer, afterAnswer}
-use Rattle.blocks.specs.Blocks.{measurementRules}
 use Rattle.steps.specs.declared.Heard.{Heard}
 use Rattle.crate_pass.specs.Crate.{replyOnPaper}
 use Rattle.board.proofs.Answers.{applies-between}
 use Rattle.board.specs.State.{situationOf, withRun}
 use Rattle.board.specs.Commands.{boardAnswer, afterCommand, boardAfter, Obeys, afterTriggerOn, TriggersOn}
 use Rattle.board.specs.SlowControl.{frameAt, fetchRules, replyAnswer, afterReply, boardReplied, Replies}
-use Rattle.board.specs.SentOut.{staticDue, dynamicDue, listRules, listDue, failureRules, failureDue}
+use Rattle.board.specs.SentOut.{SendsStatic, SendsDynamic, SendsList, SendsFailure}
 use Rattle.board.specs.declared.Board.{Board}
 use Rattle.board.specs.declared.Obedience.{Obedience}
 use Rattle.board.specs.declared.TriggeredOn.{TriggeredOn}
 use Rattle.board.specs.declared.Replied.{Replied}
 
--- a refused writer of `due` leaves the lent output as it was
-abbrev pub KeepsOutput : List Rule → List ℕ → Type 0
-KeepsOutput rules due = (out : List ℕ) (r : Written) (after : List ℕ) → Wrote rules due out r after → (n p : ℕ) → writtenOnPaper r ≡ refused n p → after ≡ out
+-- what a writer does, from the lent output to its answer and to what the output then holds
+abbrev pub Writer : Type 1
+Writer = List ℕ → Written → List ℕ → Type 0
+
+-- where it refuses it leaves the lent output as it was
+abbrev pub KeepsOutput : Writer → Type 0
+KeepsOutput writer = (out : List ℕ) (r : Written) (after : List ℕ) → writer out r after → (n p : ℕ) → writtenOnPaper r ≡ refused n p → after ≡ out
 
 -- ---- the next state, and the words that a command uses
 
@@ -54,14 +57,16 @@ module _ (β : Board) (n p : ℕ) where
       where
         go : (a : Answer Taken) → commandAnswer w ≡ a → UsedAs w n
         go (refused m q) r =
-            let d : decided w (situationOf β) ≡ refused m q = refused-more (readRules w) (stateRules (commandIn w) (situationOf β)) (accepted w) (commandIn w) m q r in
+            let d : decided w (situationOf β) ≡ refused m q =
+            refused-more (readRules w) (stateRules (commandIn w) (situationOf β)) (accepted w) (commandIn w) m q r in
             let k : _≡_ {A = Answer Command} (refused m q) (refused n p) = sym d ∙ e in
             let l = applies-between 1 8 (readRules w) tt m q (refused-applies (readRules w) (accepted w) m q r) in
             let j : m ≡ n = cc in
             inl (omega arith, ap usedOf r)
         go (given t) r =
-            let d : lowest (stateRules (t .command) (situationOf β)) (t .command) ≡ refused n p = sym (by-state w (situationOf β) (t .command) (t .used) r) ∙ e in
-            inr (applies-between 9 10 (stateRules (t .command) (situationOf β)) tt n p (refused-applies (stateRules (t .command) (situationOf β)) (t .command) n p d) .0, ap usedOf r ∙ used-is w t r)
+            let rules = stateRules (t .command) (situationOf β) in
+            let d : lowest rules (t .command) ≡ refused n p = sym (by-state w (situationOf β) (t .command) (t .used) r) ∙ e in
+            inr (applies-between 9 10 rules tt n p (refused-applies rules (t .command) n p d) .0, ap usedOf r ∙ used-is w t r)
 
     pub unread-words : n ≤ 8 → usedOf (commandAnswer w) ≡ 0
     unread-words h = ⊎-elim (λ a. a .1) (λ a. absurd (let l = a .0 in let k : ⊥ = omega arith in k)) by-words-or-state
@@ -87,11 +92,11 @@ pub record NothingLost (β : Board) : Type 0 where
   -- a reply or a time-up
   pub reply : (i : ℕ) (h : Heard) (r : Replied) → Replies β i h r → (n p : ℕ) → replyOnPaper (r .answer) ≡ refused n p → r .board ≡ β
   -- the outstanding frame, and the four blocks
-  pub frame : (i : ℕ) → KeepsOutput (fetchRules β i) (frameAt β i)
-  pub static : KeepsOutput [] (staticDue β)
-  pub dynamic : (m : List ℕ) → KeepsOutput (measurementRules m) (dynamicDue β m)
-  pub list : KeepsOutput (listRules β) (listDue β)
-  pub failure : (ordinal : ℕ) → KeepsOutput (failureRules β ordinal) (failureDue β ordinal)
+  pub frame : (i : ℕ) → KeepsOutput (Wrote (fetchRules β i) (frameAt β i))
+  pub static : KeepsOutput (SendsStatic β)
+  pub dynamic : (m : List ℕ) → KeepsOutput (SendsDynamic β m)
+  pub list : KeepsOutput (SendsList β)
+  pub failure : (ordinal : ℕ) → KeepsOutput (SendsFailure β ordinal)
 
 pub nothing-lost : (β : Board) → NothingLost β
 nothing-lost β =
@@ -102,9 +107,9 @@ nothing-lost β =
       trigger = λ f out after t o n p q.
           (o .board ∙ trigger-keeps β n p f out (sym (o .packet .answer) ∙ q), refused-keeps _ _ out (t .answer) after (o .packet) n p q);
       reply = λ i h r o n p q. o .board ∙ reply-keeps β n p i h (sym (o .answer) ∙ q);
-      frame = λ i. refused-keeps (fetchRules β i) (frameAt β i);
-      static = refused-keeps [] (staticDue β);
-      dynamic = λ m. refused-keeps (measurementRules m) (dynamicDue β m);
-      list = refused-keeps (listRules β) (listDue β);
-      failure = λ ordinal. refused-keeps (failureRules β ordinal) (failureDue β ordinal);
+      frame = λ i out r after w. refused-keeps _ _ out r after w;
+      static = λ out r after w. refused-keeps _ _ out r after (w .wrote);
+      dynamic = λ m out r after w. refused-keeps _ _ out r after (w .wrote);
+      list = λ out r after w. refused-keeps _ _ out r after (w .wrote);
+      failure = λ ordinal out r after w. refused-keeps _ _ out r after (w .wrote);
     }

@@ -3,20 +3,19 @@
 use Prim.Native.Nat.{ℕ}
 use mathlib.Core.Path.{_≡_, refl, sym, ap, _∙_}
 use mathlib.Core.Bool.{true, false}
-use mathlib.Core.List.{List, [], _∷_, _++_}
+use mathlib.Core.List.{List, [], _∷_}
 use Rattle.refusals.specs.Refusals.{numberOf, placeOf}
 use Rattle.refusals.specs.Tables.{given, refused, lowest, onPaper}
-use Rattle.refusals.specs.Writing.{Wrote}
 use Rattle.refusals.specs.declared.Refusal.{Refusal}
 use Rattle.refusals.specs.declared.Written.{Written}
 use Rattle.refusals.specs.declared.Written.the-variants.{Refused}
 use Rattle.refusals.proofs.Tables.{Clear, given-clear, given-same, refused-any}
-use Rattle.refusals.proofs.Writing.{wrote-refused, wrote-under}
-use Rattle.blocks.specs.Blocks.{headerWords, failureBody}
+use Rattle.blocks.specs.Blocks.{failureBody, WroteBlock}
 use Rattle.blocks.specs.declared.Header.{Header}
+use Rattle.blocks.proofs.Laws.{block-own, block-under}
 use Rattle.four_crates.specs.FourCrates.{inPass, recordAt, noSuchRecord, recordAnswer}
 use Rattle.four_crates.specs.declared.Failure.{Failure}
-use Rattle.board.specs.SentOut.{headerOf, listRules, failureRules, failedFrame, failureDue}
+use Rattle.board.specs.SentOut.{headerOf, listRules, failureRules, failedFrame, failureBodyOf, SendsFailure}
 use Rattle.board.specs.declared.Board.{Board}
 
 module _ (β : Board) where
@@ -32,21 +31,19 @@ module _ (β : Board) where
 
     module _ (e : inPass (β .crates) ≡ false) where
       -- there is no such record
-      pub failure-refused : (r : Refusal) → onPaper r ≡ recordAnswer (β .crates) n → (out : List ℕ)
-          → Wrote (failureRules β n) (failureDue β n) out (Refused r) out
+      pub failure-refused : (r : Refusal) → onPaper r ≡ recordAnswer (β .crates) n → (out : List ℕ) → SendsFailure β n out (Refused r) out
       unfolding recordAnswer
       failure-refused r q out =
           let rows = noSuchRecord (β .crates) n ∷ [] in
-          wrote-refused (failureRules β n) (failureDue β n) out r (rw e (refused-any rows _ 0 (numberOf r) (placeOf r) (sym q)))
+          block-own (failureRules β n) 29 (headerOf β) (failureBodyOf β n) out r (rw e (refused-any rows _ 0 (numberOf r) (placeOf r) (sym q)))
 
       -- the message of the record f is written under the rows 9 and 18, neither of which applies
       pub failure-found : (f : Failure) → given f ≡ recordAnswer (β .crates) n → (h : Header) → h ≡ headerOf β
           → (frame out after : List ℕ) (r : Written) → frame ≡ failedFrame β f
-          → Wrote [] (headerWords h ++ failureBody 3 frame) out r after
-          → Wrote (failureRules β n) (failureDue β n) out r after
+          → WroteBlock [] 29 h (failureBody 3 frame) out r after → SendsFailure β n out r after
       unfolding recordAnswer
       failure-found f q h eh frame out after r ef w =
           let rows = noSuchRecord (β .crates) n ∷ [] in
           let same : f ≡ recordAt (β .crates) n = sym (given-same rows _ f (sym q)) in
-          wrote-under (failureRules β n) (failureDue β n) out r after (e, given-clear rows _ f (sym q))
+          block-under (failureRules β n) 29 (headerOf β) (failureBodyOf β n) out r after (e, given-clear rows _ f (sym q))
           (rw (eh, ef ∙ ap (failedFrame β) same) at w)

@@ -14,15 +14,17 @@ use Rattle.acceptance.specs.Acceptance.{commandRules}
 use Rattle.acceptance.proofs.Deciding as deciding
 use Rattle.run.specs.Run.{triggerNumber, triggerRules}
 use Rattle.run.proofs.Tables as run
-use Rattle.blocks.specs.Blocks.{measurementRules}
-use Rattle.blocks.proofs.Laws as blocks
+use Rattle.blocks.specs.Blocks.{staticRules, measurementRules, blockRules}
+use Rattle.blocks.proofs.Tables as blocks
+use Rattle.blocks.proofs.Tables.{BlockExactly, block-exactly}
+use Rattle.ftu_list.specs.List.{listBody}
 use Rattle.steps.specs.declared.Heard.{Heard}
 use Rattle.four_crates.specs.FourCrates.{noSuchCrate}
 use Rattle.four_crates.proofs.OneCrate as crates
 use Rattle.board.specs.State.{crateAt, situationOf, powerUpRules, powerUpAnswer}
 use Rattle.board.specs.Commands.{boardAnswer}
 use Rattle.board.specs.SlowControl.{frameAt, fetchRules, movedAt, replyAnswer, sentAnswer}
-use Rattle.board.specs.SentOut.{headerOf, staticDue, dynamicDue, listRules, listDue, failureRules, failureDue}
+use Rattle.board.specs.SentOut.{headerOf, dynamicBodyOf, listRules, listOf, failureRules, failureBodyOf}
 use Rattle.board.specs.declared.Board.{Board}
 
 -- a writer of `due` with its own rows, then 19: it answers how much it wrote
@@ -49,24 +51,27 @@ module _ (β : Board) where
 
   -- the outstanding frame: 11, 12, 19
   pub frame-exactly : (i : ℕ) (out : List ℕ) → WritesExactly (fetchRules β i) (frameAt β i) out
-  frame-exactly i out = writing-exactly (fetchRules β i) (frameAt β i) out tt
+  unfolding writingRules
+  frame-exactly i out = writing-exactly (writingRules (fetchRules β i) (frameAt β i) out) (frameAt β i) out tt
 
   -- the number of frames sent: 11
   pub sent-exactly : (i : ℕ) → Exactly (noSuchCrate i ∷ []) (crateAt β i .sent) (sentAnswer β i)
   sent-exactly i = crates.sent-exactly (β .crates) i
 
-  -- the static block: 19
-  pub static-exactly : (out : List ℕ) → WritesExactly [] (staticDue β) out
-  static-exactly out = blocks.block-exactly (staticDue β) out
+  -- the static block: 8, 19, 20
+  pub static-exactly : (out : List ℕ) → BlockExactly (staticRules (β .block)) (headerOf β) (β .block) out
+  static-exactly out = blocks.static-exactly (headerOf β) (β .block) out
 
-  -- the dynamic block: 6, 8, 19
-  pub dynamic-exactly : (m out : List ℕ) → WritesExactly (measurementRules m) (dynamicDue β m) out
+  -- the dynamic block: 6, 8, 19, 20
+  pub dynamic-exactly : (m out : List ℕ) → BlockExactly (measurementRules m) (headerOf β) (dynamicBodyOf β m) out
   dynamic-exactly m out = blocks.dynamic-exactly (headerOf β) (β .run .«on_time») m out
 
-  -- the FTU list: 9, 19
-  pub list-exactly : (out : List ℕ) → WritesExactly (listRules β) (listDue β) out
-  list-exactly out = writing-exactly (listRules β) (listDue β) out tt
+  -- the FTU list: 9, 19, 20
+  pub list-exactly : (out : List ℕ) → BlockExactly (listRules β) (headerOf β) (listBody (listOf β)) out
+  unfolding blockRules
+  list-exactly out = block-exactly (listRules β) (headerOf β) (listBody (listOf β)) out tt
 
-  -- a failure message: 9, 18, 19
-  pub failure-exactly : (ordinal : ℕ) (out : List ℕ) → WritesExactly (failureRules β ordinal) (failureDue β ordinal) out
-  failure-exactly ordinal out = writing-exactly (failureRules β ordinal) (failureDue β ordinal) out tt
+  -- a failure message: 9, 18, 19, 20
+  pub failure-exactly : (ordinal : ℕ) (out : List ℕ) → BlockExactly (failureRules β ordinal) (headerOf β) (failureBodyOf β ordinal) out
+  unfolding blockRules
+  failure-exactly ordinal out = block-exactly (failureRules β ordinal) (headerOf β) (failureBodyOf β ordinal) out tt

@@ -1,8 +1,9 @@
 -- 01, Blocks sent out: the four blocks that a board sends.
 use Prim.Native.Nat.{ℕ, _/_, _%_}
-use mathlib.Core.List.{List, [], _∷_, _++_}
+use mathlib.Core.List.{List, [], _∷_}
 use Rattle.refusals.specs.Tables.{Rule, rule}
-use Rattle.blocks.specs.Blocks.{headerWords, dynamicBody, failureBody}
+use Rattle.refusals.specs.declared.Written.{Written}
+use Rattle.blocks.specs.Blocks.{dynamicBody, failureBody, WroteBlock, WroteStatic, WroteDynamic}
 use Rattle.blocks.specs.declared.Header.{Header}
 use Rattle.ftu_list.specs.List.{listBody}
 use Rattle.ftu_list.specs.declared.FtuList.{FtuList}
@@ -21,13 +22,9 @@ headerOf β =
       timestamp = β .run .timestamp;
     }
 
--- static block: the stored 436 words
-abbrev pub staticDue : Board → List ℕ
-staticDue β = headerWords (headerOf β) ++ β .block
-
 -- dynamic block: on-time and the lent measurements
-abbrev pub dynamicDue : Board → List ℕ → List ℕ
-dynamicDue β measurements = headerWords (headerOf β) ++ dynamicBody (β .run .«on_time») measurements
+abbrev pub dynamicBodyOf : Board → List ℕ → List ℕ
+dynamicBodyOf β measurements = dynamicBody (β .run .«on_time») measurements
 
 -- "9: .. list or records asked for during a pass"
 abbrev pub listRules : Board → List Rule
@@ -36,9 +33,6 @@ listRules β = rule 9 (inPass (β .crates)) ∷ []
 -- the FTU list: the active words as the last ping began, and what the boards answered
 abbrev pub listOf : Board → FtuList
 listOf β = record { active = β .active; entries = entriesOf (β .crates) }
-
-abbrev pub listDue : Board → List ℕ
-listDue β = headerWords (headerOf β) ++ listBody (listOf β)
 
 -- 9 in the same way, then 18
 abbrev pub failureRules : Board → ℕ → List Rule
@@ -49,5 +43,20 @@ abbrev pub failedFrame : Board → Failure → List ℕ
 failedFrame β f = stepFrame (β .block) (f .k / 10) (f .k % 10) (f .code)
 
 -- failure message: three calls were made, "after the third send of a step fails"
-abbrev pub failureDue : Board → ℕ → List ℕ
-failureDue β n = headerWords (headerOf β) ++ failureBody 3 (failedFrame β (recordAt (β .crates) n))
+abbrev pub failureBodyOf : Board → ℕ → List ℕ
+failureBodyOf β n = failureBody 3 (failedFrame β (recordAt (β .crates) n))
+
+-- ---- what each call answers and leaves, of the lent words `out`
+
+-- the static block: the stored 436 words
+abbrev pub SendsStatic : Board → List ℕ → Written → List ℕ → Type 0
+SendsStatic β out r after = WroteStatic (headerOf β) (β .block) out r after
+
+abbrev pub SendsDynamic : Board → List ℕ → List ℕ → Written → List ℕ → Type 0
+SendsDynamic β measurements out r after = WroteDynamic (headerOf β) (β .run .«on_time») measurements out r after
+
+abbrev pub SendsList : Board → List ℕ → Written → List ℕ → Type 0
+SendsList β out r after = WroteBlock (listRules β) 249 (headerOf β) (listBody (listOf β)) out r after
+
+abbrev pub SendsFailure : Board → ℕ → List ℕ → Written → List ℕ → Type 0
+SendsFailure β n out r after = WroteBlock (failureRules β n) 29 (headerOf β) (failureBodyOf β n) out r after

@@ -6,7 +6,6 @@ ghost use Prim.Native.Nat.{_≤_};
 ghost use lib.ListN.{length};
 ghost use Rattle.refusals.specs.Tables.{given};
 ghost use Rattle.refusals.specs.Writing.{Wrote};
-ghost use Rattle.blocks.specs.Blocks.{measurementRules};
 ghost use Rattle.configuration.specs.Configuration.{activeWord};
 ghost use Rattle.commands.specs.declared.Command.the-variants.{Write};
 ghost use Rattle.acceptance.specs.Acceptance.{answerOnPaper};
@@ -17,7 +16,7 @@ ghost use Rattle.four_crates.specs.FourCrates.{sentOnPaper};
 ghost use Rattle.board.specs.State.{activeWords, isIdle, situationOf, withRun, freshBoard, PowersUp};
 ghost use Rattle.board.specs.Commands.{written, pinged, afterCommand, Obeys, TriggersOn};
 ghost use Rattle.board.specs.SlowControl.{frameAt, Replies, fetchRules, sentAnswer};
-ghost use Rattle.board.specs.SentOut.{headerOf, staticDue, dynamicDue, listRules, listDue, failureRules, failureDue};
+ghost use Rattle.board.specs.SentOut.{headerOf, SendsStatic, SendsDynamic, SendsList, SendsFailure};
 use acceptance::CommandAnswer;
 use acceptance::Situation;
 use acceptance::decide;
@@ -425,7 +424,7 @@ impl Board {
 
     // The static block, into lent words.
     pub fn static_block(self, out: &mut [u16]) -> Written
-        ensures { λ r. ⌜ Wrote [] (staticDue self) (now (out .entry)) r (now (out .exit)) ⌝ }
+        ensures { λ r. ⌜ SendsStatic self (now (out .entry)) r (now (out .exit)) ⌝ }
     {
         let block = self.block;
         write_static(self.header(), block, out)
@@ -433,7 +432,7 @@ impl Board {
 
     // The dynamic block, with lent measurements, into lent words.
     pub fn dynamic_block(self, measurements: &[u16], out: &mut [u16]) -> Written
-        ensures { λ r. ⌜ Wrote (measurementRules (now (measurements .entry))) (dynamicDue self (now (measurements .entry))) (now (out .entry)) r (now (out .exit)) ⌝ }
+        ensures { λ r. ⌜ SendsDynamic self (now (measurements .entry)) (now (out .entry)) r (now (out .exit)) ⌝ }
     {
         let run = self.run;
         write_dynamic(self.header(), run.on_time, measurements, out)
@@ -441,7 +440,7 @@ impl Board {
 
     // The FTU list, into lent words.
     pub fn ftu_list(self, out: &mut [u16]) -> Written
-        ensures { λ r. ⌜ Wrote (listRules self) (listDue self) (now (out .entry)) r (now (out .exit)) ⌝ }
+        ensures { λ r. ⌜ SendsList self (now (out .entry)) r (now (out .exit)) ⌝ }
     {
         let active = self.active;
         let crates = self.crates;
@@ -454,7 +453,7 @@ impl Board {
 
     // The failure message of an ordinal, into lent words.
     pub fn failure_message(self, ordinal: usize, out: &mut [u16]) -> Written
-        ensures { λ r. ⌜ Wrote (failureRules self ordinal) (failureDue self ordinal) (now (out .entry)) r (now (out .exit)) ⌝ }
+        ensures { λ r. ⌜ SendsFailure self ordinal (now (out .entry)) r (now (out .exit)) ⌝ }
     {
         let crates = self.crates;
         let block = self.block;

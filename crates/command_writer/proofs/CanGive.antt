@@ -8,7 +8,7 @@ use mathlib.Core.Logic.{inl, inr}
 use native.Mathlib.Omega.{arith}
 use lib.ListN.{length, replicate}
 use Rattle.refusals.specs.Tables.{Rule, refused}
-use Rattle.refusals.specs.Writing.{writingRules, writing, writtenOnPaper, Wrote}
+use Rattle.refusals.specs.Writing.{writingBy, writingRules, writtenOnPaper}
 use Rattle.refusals.specs.declared.Written.{Written}
 use Rattle.refusals.proofs.Tables.{Applies, refused-applies}
 use Rattle.bounds.specs.Bounds.{boundOf, lentRules}
@@ -16,7 +16,7 @@ use Rattle.commands.specs.declared.BlockKind.the-variants.{Static}
 use Rattle.commands.specs.declared.RunLength.the-variants.{Endless, Counted}
 use Rattle.commands.specs.declared.Command.{Command}
 use Rattle.commands.specs.declared.Command.the-variants.{Read, Write, Start, Stop, Ping, CrateReset}
-use Rattle.command_writer.specs.Writing.{commandWords, writeRules}
+use Rattle.command_writer.specs.Writing.{commandWords, writeRules, WroteCommand}
 use Rattle.command_writer.specs.CanGive.{numbersGiven, oneOf, GivenFor, CanGive}
 
 -- ---- no other
@@ -35,7 +35,7 @@ one-of-rows numbers (r ∷ rs) n p e (inl h) = ap (oneOf numbers) (sym (h .1)) �
 one-of-rows numbers (r ∷ rs) n p e (inr h) = one-of-rows numbers rs n p (both (oneOf numbers (r .number)) (allOf numbers rs) e .1) h
 
 rows : (c : Command) (b out : List ℕ) → allOf numbersGiven (writingRules (writeRules c b) (commandWords c b) out) ≡ true
-unfolding lentRules
+unfolding writingRules lentRules
 rows (Read kind) b out = refl
 rows Write b out = refl
 rows (Start Endless) b out = refl
@@ -44,36 +44,36 @@ rows Stop b out = refl
 rows Ping b out = refl
 rows (CrateReset c) b out = refl
 
-only-these : (c : Command) (b out : List ℕ) (r : Written) (after : List ℕ) → Wrote (writeRules c b) (commandWords c b) out r after
+only-these : (c : Command) (b out : List ℕ) (r : Written) (after : List ℕ) → WroteCommand c b out r after
     → (n p : ℕ) → writtenOnPaper r ≡ refused n p → oneOf numbersGiven n ≡ true
-unfolding writing
+unfolding writingBy
 only-these c b out r after w n p e =
     let rules = writingRules (writeRules c b) (commandWords c b) out in
-    one-of-rows numbersGiven rules n p (rows c b out) (refused-applies rules (length (commandWords c b)) n p (sym (w .answer) ∙ e))
+    one-of-rows numbersGiven rules n p (rows c b out) (refused-applies rules (length (commandWords c b)) n p (sym (w .wrote .answer) ∙ e))
 
 -- ---- each of them
 
 -- a block of no word
 gives-6 : GivenFor 6
-unfolding writing lentRules
+unfolding writingBy writingRules lentRules
 gives-6 = record { command = Write; block = []; out = []; place = 0; gives = refl }
 
 gives-7 : GivenFor 7
-unfolding writing
+unfolding writingBy writingRules
 gives-7 = record { command = Start (Counted 0); block = []; out = []; place = 0; gives = refl }
 
 -- word 0x000 above 0x00FF
 gives-8 : GivenFor 8
-unfolding writing lentRules boundOf
+unfolding writingBy writingRules lentRules boundOf
 gives-8 = record { command = Write; block = replicate 436 0x0100; out = []; place = 0; gives = refl }
 
 gives-11 : GivenFor 11
-unfolding writing
+unfolding writingBy writingRules
 gives-11 = record { command = CrateReset 4; block = []; out = []; place = 0; gives = refl }
 
 -- no word lent
 gives-19 : GivenFor 19
-unfolding writing
+unfolding writingBy writingRules
 gives-19 = record { command = Read Static; block = []; out = []; place = 0; gives = refl }
 
 pub can-give : CanGive numbersGiven

@@ -5,10 +5,10 @@ use mathlib.Core.Bool.{Bool, true, false, _||_}
 use mathlib.Core.List.{List, [], _∷_}
 use lib.Dec.{eqb}
 use Rattle.refusals.specs.Tables.{refused}
-use Rattle.refusals.specs.Writing.{writing, writtenOnPaper, Wrote}
+use Rattle.refusals.specs.Writing.{writing, writtenOnPaper}
 use Rattle.refusals.specs.declared.Written.{Written}
 use Rattle.commands.specs.declared.Command.{Command}
-use Rattle.command_writer.specs.Writing.{commandWords, writeRules}
+use Rattle.command_writer.specs.Writing.{commandWords, writeRules, WroteCommand}
 
 abbrev pub numbersGiven : List ℕ
 numbersGiven = 6 ∷ 7 ∷ 8 ∷ 11 ∷ 19 ∷ []
@@ -32,6 +32,6 @@ EachGiven (n ∷ ns) = GivenFor n × EachGiven ns
 
 -- of what the writer promises: a refusal has one of these numbers, and each of them is given
 pub record CanGive (numbers : List ℕ) : Type 0 where
-  pub only : (c : Command) (b out : List ℕ) (r : Written) (after : List ℕ) → Wrote (writeRules c b) (commandWords c b) out r after
+  pub only : (c : Command) (b out : List ℕ) (r : Written) (after : List ℕ) → WroteCommand c b out r after
       → (n p : ℕ) → writtenOnPaper r ≡ refused n p → oneOf numbers n ≡ true
   pub each : EachGiven numbers

@@ -1,8 +1,10 @@
 -- 01, Command words: the words of a command as they are written, and the refusals of its writer.
-use Prim.Native.Nat.{ℕ}
+use Prim.Native.Nat.{ℕ, _^_, _<_}
 use mathlib.Core.List.{List, [], _∷_, _++_}
 use lib.Dec.{ltb, eqb}
 use Rattle.refusals.specs.Tables.{Rule, rule}
+use Rattle.refusals.specs.Writing.{Wrote}
+use Rattle.refusals.specs.declared.Written.{Written}
 use Rattle.numbers.specs.Numbers.{digits}
 use Rattle.bounds.specs.Bounds.{boundOf, lentRules}
 use Rattle.commands.specs.Commands.{idOf, parameterOf}
@@ -37,3 +39,18 @@ writeRules (Start (Counted x)) b = rule 7 (eqb x 0) ∷ []
 writeRules Stop b = []
 writeRules Ping b = []
 writeRules (CrateReset c) b = rule 11 (ltb 3 c) ∷ []
+
+-- X has 32 bits, as the command's type says
+abbrev pub CountFits : Command → Type 0
+CountFits (Read kind) = Unit
+CountFits Write = Unit
+CountFits (Start Endless) = Unit
+CountFits (Start (Counted x)) = x < 2 ^ 32
+CountFits Stop = Unit
+CountFits Ping = Unit
+CountFits (CrateReset n) = Unit
+
+-- the writer of the command c, with the block b of a write, answered r, and the lent words `out` became `after`
+pub record WroteCommand (c : Command) (b out : List ℕ) (r : Written) (after : List ℕ) : Type 0 where
+  pub wrote : Wrote (writeRules c b) (commandWords c b) out r after
+  pub fits : CountFits c

@@ -4,7 +4,7 @@ ghost use mathlib.Core.List.{[], _∷_, _++_};
 ghost use Rattle.refusals.specs.Writing.{Wrote};
 ghost use Rattle.commands.specs.declared.Command.the-variants.{Write, Start, CrateReset};
 ghost use Rattle.commands.specs.declared.RunLength.the-variants.{Counted};
-ghost use Rattle.command_writer.specs.Writing.{fiveWords, commandWords, writeRules};
+ghost use Rattle.command_writer.specs.Writing.{fiveWords, commandWords, writeRules, WroteCommand};
 use bounds::lowest_above;
 use commands::BlockKind;
 use commands::Command;
@@ -28,7 +28,7 @@ fn put_five(id: u16, parameter: u16, out: &mut [u16]) -> Written
 
 // A start that counts x events.
 fn put_count(x: u32, out: &mut [u16]) -> Written
-    ensures { λ r. ⌜ Wrote (writeRules (Start (Counted x)) []) (commandWords (Start (Counted x)) []) (now (out .entry)) r (now (out .exit)) ⌝ }
+    ensures { λ r. ⌜ WroteCommand (Start (Counted x)) [] (now (out .entry)) r (now (out .exit)) ⌝ }
 {
     if x == 0 {
         return Written::Refused(Refusal::NoEvents);
@@ -77,7 +77,7 @@ fn put_write(block: &[u16], out: &mut [u16]) -> Written
 
 // Writes a command, with the block of a write, to the front of the lent words. Other commands do not look at the block.
 pub fn write_command(c: Command, block: &[u16], out: &mut [u16]) -> Written
-    ensures { λ r. ⌜ Wrote (writeRules c (now (block .entry))) (commandWords c (now (block .entry))) (now (out .entry)) r (now (out .exit)) ⌝ }
+    ensures { λ r. ⌜ WroteCommand c (now (block .entry)) (now (out .entry)) r (now (out .exit)) ⌝ }
 {
     match c {
         Command::Read(kind) => match kind {

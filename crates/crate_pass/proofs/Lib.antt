@@ -5,3 +5,4 @@ pub mod After
 pub mod Entries
 pub mod Sound
 pub mod Tables
+pub mod Apart

@@ -1,57 +1,58 @@
 -- What is said of bytes and words that a call on the board wrote: all that is due, since the lent arrays have room for it.
 -- Assumes nothing.
 use Prim.Native.Nat.{ℕ, _/_, _≤_}
-use mathlib.Core.Path.{_≡_, refl, sym, ap, _∙_}
-use mathlib.Core.Bool.{Bool, false, cond}
+use mathlib.Core.Path.{_≡_, sym, ap, _∙_}
 use mathlib.Core.List.{List, [], _∷_, _++_, append-nil}
 use native.Mathlib.Omega.{arith}
 use lib.ListN.{length, take, drop, drop-of-length-le}
 use lib.Seq.{take-at}
-use lib.Dec.{ltb}
 use borrow.Author.Tests.{le-ltb}
 use Rattle.refusals.specs.Refusals.{numberOf, placeOf}
-use Rattle.refusals.specs.Tables.{Answer, given, refused, Rule, rule, lowest}
-use Rattle.refusals.specs.Writing.{writtenOnPaper, writing, laid, Wrote}
-use Rattle.refusals.specs.declared.Refusal.{Refusal}
+use Rattle.refusals.specs.Tables.{Answer, Rule, lowest}
+use Rattle.refusals.specs.Writing.{writtenOnPaper, writingBy, laid, WroteBy, tooShort, writingRules, writing, Wrote}
 use Rattle.refusals.specs.declared.Written.{Written}
 use Rattle.refusals.specs.declared.Written.the-variants.{Length, Refused}
-use Rattle.refusals.proofs.Tables.{Clear, clear-given, given-clear, given≢refused, refused-more}
-use Rattle.refusals.proofs.Writing.{wrote-front, wrote-clear}
+use Rattle.refusals.proofs.Tables.{Clear, clear-given, refused-any, row-off}
+use Rattle.refusals.proofs.Writing.{wrote-front, clear-by, refused-by-table}
+use Rattle.blocks.specs.Blocks.{headerWords, wrongId, blockRules, WroteBlock}
+use Rattle.blocks.specs.declared.Header.{Header}
 use Rattle.words.specs.Words.{wordsIn}
 use Rattle.words.proofs.Bytes.{length-words}
 use Rattle.texts.specs.Texts.{Reply}
 use Rattle.exchange.specs.Exchange.{dueReply, writtenReply}
 
--- a last row that does not apply changes nothing
-last-off : {A : Type 0} (rs : List Rule) (t : Bool) (a : A) → t ≡ false → lowest (rs ++ (rule 19 t ∷ [])) a ≡ lowest rs a
-last-off {A} [] t a e = ap (λ (s : Bool). cond {A = Answer A} s (refused 19 0) (given a)) e
-last-off (r ∷ rs) t a e = ap (cond (r .applies) (refused (r .number) (r .place))) (last-off rs t a e)
-
 -- where what is due has room, 19 does not apply
 pub room-writing : (rules : List Rule) (due out : List ℕ) → length due ≤ length out → writing rules due out ≡ lowest rules (length due)
-unfolding writing
-room-writing rules due out h = last-off rules (ltb (length out) (length due)) (length due) (le-ltb _ _ h)
+unfolding writingBy writingRules
+room-writing rules due out h =
+    row-off rules (tooShort (length due) out) [] (length due) (λ _. le-ltb _ _ h) ∙ ap (λ (rs : List Rule). lowest rs (length due)) (append-nil rules)
 
--- what a writer with room for what is due answered is what is due, or why not
-module _ (print : List ℕ → Reply) (rules : List Rule) (due out : List ℕ) (room : Clear rules → length due ≤ length out) (after : List ℕ) where
-  refused-due : (r : Refusal) → writing rules due out ≡ refused (numberOf r) (placeOf r) → lowest rules due ≡ refused (numberOf r) (placeOf r)
-  unfolding writing
-  refused-due r e = go (lowest rules due) refl
-    where
-      go : (a : Answer (List ℕ)) → lowest rules due ≡ a → lowest rules due ≡ refused (numberOf r) (placeOf r)
-      go (given d) q =
-          let clear : Clear rules = given-clear rules due d q in
-          absurd (given≢refused (sym (room-writing rules due out (room clear) ∙ clear-given rules (length due) clear) ∙ e))
-      go (refused n p) q =
-          let e₂ : _≡_ {A = Answer ℕ} (refused n p) (refused (numberOf r) (placeOf r)) = sym (refused-more rules _ due (length due) n p q) ∙ e in
-          let en : n ≡ numberOf r = cc in
-          let ep : p ≡ placeOf r = cc in
-          q ∙ (λ i. refused (en i) (ep i))
+-- what a writer said is what is due, or why not
+pub table-said : (print : List ℕ → Reply) (table : List Rule) (due out after : List ℕ) (w : Written) → WroteBy table due out w after
+    → writtenReply (λ n. print (take n after)) (writtenOnPaper w) ≡ dueReply print (lowest table due)
+table-said print table due out after (Length n) h =
+    ap print (wrote-front table due out n after h) ∙ sym (ap (dueReply print) (clear-given table due (clear-by table due out n after h)))
+table-said print table due out after (Refused r) h =
+    sym (ap (dueReply print) (refused-any table 0 due (numberOf r) (placeOf r) (refused-by-table table due out r after h)))
 
-  pub due-said : (w : Written) → Wrote rules due out w after → writtenReply (λ n. print (take n after)) (writtenOnPaper w) ≡ dueReply print (lowest rules due)
-  due-said (Length n) h =
-      ap print (wrote-front rules due out n after h) ∙ sym (ap (dueReply print) (clear-given rules due (wrote-clear rules due out n after h)))
-  due-said (Refused r) h = sym (ap (dueReply print) (refused-due r (sym (h .answer))))
+-- and 19 is left out of it, where the lent output has room for what is due
+pub due-said : (print : List ℕ → Reply) (rules : List Rule) (due out : List ℕ) → (Clear rules → length due ≤ length out) → (after : List ℕ) (w : Written)
+    → Wrote rules due out w after → writtenReply (λ n. print (take n after)) (writtenOnPaper w) ≡ dueReply print (lowest rules due)
+unfolding writingRules
+due-said print rules due out room after w h =
+    table-said print (writingRules rules due out) due out after w h
+    ∙ ap (dueReply print)
+    (row-off rules (tooShort (length due) out) [] due (λ c. le-ltb _ _ (room c)) ∙ ap (λ (rs : List Rule). lowest rs due) (append-nil rules))
+
+-- of a block too
+pub block-said : (print : List ℕ → Reply) (own : List Rule) (n : ℕ) (h : Header) (body out : List ℕ)
+    → (Clear own → length (headerWords h ++ body) ≤ length out) → (after : List ℕ) (w : Written) → WroteBlock own n h body out w after
+    → writtenReply (λ n. print (take n after)) (writtenOnPaper w) ≡ dueReply print (lowest (own ++ (wrongId h ∷ [])) (headerWords h ++ body))
+unfolding blockRules
+block-said print own n h body out room after w b =
+    table-said print (blockRules own h body out) (headerWords h ++ body) out after w (b .wrote)
+    ∙ ap (dueReply print)
+    (row-off own (tooShort (length (headerWords h ++ body)) out) (wrongId h ∷ []) (headerWords h ++ body) (λ c. le-ltb _ _ (room c)))
 
 -- ---- the words that bytes hold, where the lent words have room for them
 

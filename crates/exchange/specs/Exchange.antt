@@ -2,12 +2,13 @@
 use Prim.Native.Nat.{ℕ}
 use mathlib.Core.Path.{_≡_}
 use mathlib.Core.Bool.{cond}
-use mathlib.Core.List.{List, [], _∷_}
+use mathlib.Core.List.{List, [], _∷_, _++_}
 use lib.Dec.{eqb}
 use lib.ListN.{length, take}
-use Rattle.refusals.specs.Tables.{Answer, given, refused, lowest}
+use Rattle.refusals.specs.Tables.{Answer, given, refused, Rule, lowest}
 use Rattle.packets.specs.Packets.{packetBytes}
-use Rattle.blocks.specs.Blocks.{measurementRules}
+use Rattle.blocks.specs.Blocks.{headerWords, staticRules, measurementRules, wrongId}
+use Rattle.ftu_list.specs.List.{listBody}
 use Rattle.commands.specs.declared.Command.{Command}
 use Rattle.command_reader.specs.Reading.{commandAnswer, usedOf}
 use Rattle.steps.specs.Steps.{heardIn, silence}
@@ -16,12 +17,13 @@ use Rattle.crate_pass.specs.declared.Outcome.{Outcome}
 use Rattle.board.specs.State.{freshBoard, withRun, powerUpAnswer}
 use Rattle.board.specs.Commands.{boardAnswer, boardAfter}
 use Rattle.board.specs.SlowControl.{fetchRules, frameAt, replyAnswer, boardReplied, sentAnswer}
-use Rattle.board.specs.SentOut.{staticDue, dynamicDue, listRules, listDue, failureRules, failureDue}
+use Rattle.board.specs.SentOut.{headerOf, dynamicBodyOf, listRules, listOf, failureRules, failureBodyOf}
 use Rattle.board.specs.declared.Board.{Board}
 use Rattle.script.specs.Script.{Line, passedOver, order, malformed}
 use Rattle.texts.specs.declared.Said.{Said}
 use Rattle.texts.specs.Texts.{Reply, question, numbers, done, served, inBytes, inWords, textOf, saidOnPaper, inFront}
-use Rattle.exchange.specs.Orders.{Order, powerUp, command, clockStep, trigger, reply, timeUp, outstanding, framesSent, static, ftuList, failure, dynamic, otherForm, orderOf}
+use Rattle.exchange.specs.Orders.{Order, powerUp, command, clockStep, trigger, reply, timeUp, outstanding, framesSent}
+use Rattle.exchange.specs.Orders.{static, ftuList, failure, dynamic, otherForm, orderOf}
 use Rattle.exchange.specs.declared.Answered.{Answered}
 use Rattle.exchange.specs.declared.ServedLine.{ServedLine}
 
@@ -58,6 +60,10 @@ abbrev pub writtenReply : (ℕ → Reply) → Answer ℕ → Reply
 writtenReply print (given n) = print n
 writtenReply print (refused n p) = refusalReply n p
 
+-- a block with these rows of its own and this body: the words lent have room for every block, so 19 is left out
+abbrev pub blockReply : Board → List Rule → List ℕ → Reply
+blockReply β own body = dueReply inWords (lowest (own ++ (wrongId (headerOf β) ∷ [])) (headerWords (headerOf β) ++ body))
+
 unfoldable pub replyTo : Board → Order → Reply
 replyTo β (powerUp id firmware) = plainReply (powerUpAnswer id)
 replyTo β (command w) = commandReply (usedOf (commandAnswer w)) (boardAnswer β w)
@@ -67,10 +73,10 @@ replyTo β (reply c bytes) = outcomeReply (replyAnswer β c (heardIn (frameAt β
 replyTo β (timeUp c) = outcomeReply (replyAnswer β c silence)
 replyTo β (outstanding c) = dueReply inBytes (lowest (fetchRules β c) (frameAt β c))
 replyTo β (framesSent c) = sentReply (sentAnswer β c)
-replyTo β static = inWords (staticDue β)
-replyTo β ftuList = dueReply inWords (lowest (listRules β) (listDue β))
-replyTo β (failure n) = dueReply inWords (lowest (failureRules β n) (failureDue β n))
-replyTo β (dynamic m) = dueReply inWords (lowest (measurementRules m) (dynamicDue β m))
+replyTo β static = blockReply β (staticRules (β .block)) (β .block)
+replyTo β ftuList = blockReply β (listRules β) (listBody (listOf β))
+replyTo β (failure n) = blockReply β (failureRules β n) (failureBodyOf β n)
+replyTo β (dynamic m) = blockReply β (measurementRules m) (dynamicBodyOf β m)
 replyTo β otherForm = question
 
 -- ---- the board after it

@@ -1,63 +1,103 @@
 -- A static block, written and read back.
 -- Assumes nothing.
-use Prim.Native.Nat.{ℕ, _≤_}
+use Prim.Native.Nat.{ℕ, _+_, _≤_}
 use native.Mathlib.Omega.{arith}
-use mathlib.Core.Path.{_≡_, sym, ap, _∙_}
-use mathlib.Core.List.{List, [], _++_}
-use lib.ListN.{length, take, drop, replicate, length-append}
-use Rattle.refusals.specs.Refusals.{numberOf}
-use Rattle.refusals.specs.Tables.{Answer}
-use Rattle.refusals.specs.Writing.{writtenOnPaper, laid, Wrote}
+use mathlib.Core.Path.{_≡_, refl, sym, ap, _∙_}
+use mathlib.Core.List.{List, [], _∷_, _++_, append-nil}
+use lib.ListN.{length, take, drop, replicate, length-append, drop-of-length-le}
+use borrow.Author.Tests.{eq-eqb}
+use Rattle.refusals.specs.Tables.{Answer, given, refused, rule}
+use Rattle.refusals.specs.Writing.{writtenOnPaper}
 use Rattle.refusals.specs.declared.Refusal.{Refusal}
+use Rattle.refusals.specs.declared.Refusal.the-variants.{WrongLength}
 use Rattle.refusals.specs.declared.Written.{Written}
 use Rattle.refusals.specs.declared.Written.the-variants.{Length, Refused}
-use Rattle.refusals.proofs.Writing.{wrote-length, wrote-front}
+use Rattle.refusals.proofs.Tables.{given≢refused}
+use Rattle.refusals.proofs.Writing.{wrote-alike-by, wrote-length, wrote-output, wrote-front}
+use Rattle.refusals.proofs.Apart.{written-apart}
 use Rattle.words.specs.Words.{copied}
-use Rattle.blocks.specs.Blocks.{headerWords}
+use Rattle.words.proofs.Laws.{copied-front}
+use Rattle.bounds.specs.Bounds.{boundOf, lentRules}
+use Rattle.bounds.proofs.Lent.{lent-6, lent-within}
+use Rattle.blocks.specs.Blocks.{headerWords, staticRules, blockRules, WroteBlock}
+use Rattle.blocks.proofs.Laws.{block-own, block-clear}
+use Rattle.blocks.proofs.Tables.{block-exactly}
 use Rattle.block_reader.specs.Reading.{readOnPaper, blockAnswer}
 use Rattle.block_reader.specs.declared.Kind.the-variants.{Static}
 use Rattle.block_reader.specs.declared.BlockRead.{BlockRead}
-use Rattle.exports.specs.Exports.{answerNumber, headerOfZeros, staticOf, readAgain, StaticRound}
+use Rattle.block_reader.specs.declared.BlockRead.the-variants.{Refused as Unread}
+use Rattle.round_trips.specs.Blocks.{ReadsBack}
+use Rattle.round_trips.proofs.Blocks.{written-back}
+use Rattle.board.proofs.Answers.{applies-between}
+use Rattle.exports.specs.Exports.{answerNumber, headerOfZeros, staticAnswer, StaticRound}
 
-module _ (due out : List ℕ) (w : Written) (after : List ℕ) (s : Wrote [] due out w after) (n : ℕ) (e : w ≡ Length n) where
-  as-length : Wrote [] due out (Length n) after
-  as-length = rw e at s
+-- 6 and then the rows of a static block: the writer's answer w, and what the lent words `out` became
+abbrev WroteLent : List ℕ → List ℕ → Written → List ℕ → Type 0
+WroteLent block out w after = WroteBlock (lentRules boundOf 436 block) 436 headerOfZeros block out w after
 
-  pub front-length : n ≡ length (take n after)
-  front-length = sym (ap length (wrote-front [] due out n after as-length) ∙ wrote-length [] due out n after as-length)
+module _ (block out : List ℕ) (w : Written) (after : List ℕ) (s : WroteLent block out w after) where
+  module _ (n : ℕ) (e : w ≡ Length n) where
+    as-length : WroteLent block out (Length n) after
+    as-length = rw e at s
 
-  pub front-fits : n ≤ length after
-  front-fits =
-      let q : after ≡ due ++ drop (length due) out = s .output ∙ ap (λ (a : Answer ℕ). laid a due out) (sym (s .answer) ∙ ap writtenOnPaper e) in
-      let h = ap length q ∙ length-append due (drop (length due) out) in
-      let k = wrote-length [] due out n after as-length in
-      omega arith
+    pub static-reads : ReadsBack Static (take n after) headerOfZeros block
+    static-reads =
+        written-back (lentRules boundOf 436 block) Static headerOfZeros block out n after as-length
+        (lent-within boundOf 436 block (block-clear (lentRules boundOf 436 block) 436 headerOfZeros block out n after as-length))
 
-module _ (block stored out : List ℕ) (es : stored ≡ copied block (replicate 436 0)) (w : Written) (after : List ℕ)
-    (s : Wrote [] (headerWords headerOfZeros ++ stored) out w after) (r : ℕ) where
-  due-is : headerWords headerOfZeros ++ stored ≡ staticOf block
-  unfolding staticOf
-  due-is = ap (λ (l : List ℕ). headerWords headerOfZeros ++ l) es
+    pub front-fits : n ≤ length after
+    front-fits =
+        let due = headerWords headerOfZeros ++ block in
+        let table = blockRules (lentRules boundOf 436 block) headerOfZeros block out in
+        let q = ap length (wrote-output table due out n after (as-length .wrote)) ∙ length-append due (drop (length due) out) in
+        let k = wrote-length table due out n after (as-length .wrote) in
+        omega arith
 
-  wrote-static : Wrote [] (staticOf block) out w after
-  wrote-static = rw due-is at s
+    pub front-length : n ≡ length (take n after)
+    front-length =
+        let due = headerWords headerOfZeros ++ block in
+        let table = blockRules (lentRules boundOf 436 block) headerOfZeros block out in
+        sym (ap length (wrote-front table due out n after (as-length .wrote)) ∙ wrote-length table due out n after (as-length .wrote))
 
-  pub static-refused : (f : Refusal) → w ≡ Refused f → r ≡ numberOf f → StaticRound block out r after
-  static-refused f e q =
+    -- so the reader does not refuse it
+    pub static-unread : {A : Type 0} (r : Refusal) (b : BlockRead) → b ≡ Unread r → readOnPaper b ≡ blockAnswer Static (take n after) → A
+    static-unread r b told q = absurd (given≢refused (sym (static-reads .header) ∙ sym q ∙ ap readOnPaper told))
+
+  -- the number is that of the writer's answer
+  pub static-round : (r : ℕ) → r ≡ answerNumber (writtenOnPaper w) → StaticRound block out r after
+  static-round r q =
       record {
-        output = wrote-static .output;
-        answer = q ∙ ap (λ (a : Answer ℕ). readAgain a (staticOf block)) (sym (ap writtenOnPaper e) ∙ wrote-static .answer);
+        number = q ∙ ap answerNumber (s .wrote .answer);
+        output = s .wrote .output;
+        reads = λ n e. static-reads n (written-apart w (Length n) (s .wrote .answer ∙ e));
       }
 
-  pub static-read : (n : ℕ) → w ≡ Length n → (b : BlockRead) → readOnPaper b ≡ blockAnswer Static (take n after)
-      → r ≡ answerNumber (readOnPaper b) → StaticRound block out r after
-  static-read n e b told q =
-      let front : take n after ≡ staticOf block = wrote-front [] (staticOf block) out n after (rw e at wrote-static) in
+-- other words than 436
+pub static-6 : (block out : List ℕ) → (length block ≡ 436 → ⊥) → StaticRound block out 6 out
+static-6 block out l =
+    static-round block out (Refused WrongLength) out
+    (block-own (lentRules boundOf 436 block) 436 headerOfZeros block out WrongLength (lent-6 boundOf 436 block l)) 6 refl
+
+-- 436 words, stored in a block of zeros
+module _ (block stored out : List ℕ) (l : length block ≡ 436) (es : stored ≡ copied block (replicate 436 0)) (w : Written) (after : List ℕ) where
+  stored-is : stored ≡ block
+  stored-is =
+      copied-front block (replicate 436 0) 436 l (omega arith) es
+      ∙ ap (λ (m : List ℕ). block ++ m) (drop-of-length-le (replicate 436 0) {i = 436} (omega arith))
+      ∙ append-nil block
+
+  pub wrote-lent : WroteBlock (staticRules stored) 436 headerOfZeros stored out w after → WroteLent block out w after
+  unfolding blockRules lentRules
+  wrote-lent s =
+      let q : WroteBlock (staticRules block) 436 headerOfZeros block out w after = rw stored-is at s in
       record {
-        output = wrote-static .output;
-        answer =
-            q
-            ∙ ap answerNumber told
-            ∙ ap (λ (l : List ℕ). answerNumber (blockAnswer Static l)) front
-            ∙ ap (λ (a : Answer ℕ). readAgain a (staticOf block)) (sym (ap writtenOnPaper e) ∙ wrote-static .answer);
+        wrote = wrote-alike-by (rule 6 _ ∷ []) [] _ (headerWords headerOfZeros ++ block) out w after tt (simp (eq-eqb _ _ l), tt) (q .wrote);
+        size = q .size;
       }
+
+-- every refusal has a number of 6 or more: 0 is given exactly where the block is written
+pub static-numbers : (block out : List ℕ) (n p : ℕ) → staticAnswer block out ≡ refused n p → 6 ≤ n
+unfolding blockRules lentRules
+static-numbers block out n p e =
+    let table = blockRules (lentRules boundOf 436 block) headerOfZeros block out in
+    applies-between 6 20 table tt n p (block-exactly (lentRules boundOf 436 block) headerOfZeros block out tt .refused-only n p e .0) .0

@@ -9,7 +9,7 @@ use lib.ListN.{length, take, drop, length-append, length-drop, take-append-drop,
 use lib.Seq.{length-take-le, take-at, drop-at}
 use borrow.Author.Tests.{le-ltb}
 use Rattle.refusals.specs.Tables.{Answer, given, refused, Rule, lowest}
-use Rattle.refusals.specs.Writing.{writing, writtenOnPaper, laid}
+use Rattle.refusals.specs.Writing.{writingBy, writingRules, writtenOnPaper, laid}
 use Rattle.refusals.specs.declared.Refusal.{Refusal}
 use Rattle.refusals.specs.declared.Written.the-variants.{Length, Refused}
 use Rattle.packets.specs.Packets.{plain, packetBytes}
@@ -36,7 +36,7 @@ packet-size r = refl
 
 -- where there is room for a packet, the answer is that of a trigger's own rows
 room : (r : Run) (out : List ℕ) → 7 ≤ length out → triggerAnswer r four out ≡ lowest (triggerRules r four) 7
-unfolding writing plain
+unfolding writingBy writingRules plain
 room r out h = rows-before (triggerRules r four) _ 7 (rw (le-ltb _ _ h) refl)
 
 module _ (β : Board) (m : ℕ) (out : List ℕ) (t : TriggeredOn) (after : List ℕ) (s : TriggersOn β four out t after) (h : 7 ≤ length out) where

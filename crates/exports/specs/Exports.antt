@@ -6,14 +6,14 @@ use mathlib.Core.List.{List, [], _∷_, _++_}
 use lib.Dec.{eqb, ltb}
 use lib.ListN.{length, getD, take, drop, replicate}
 use Rattle.refusals.specs.Tables.{Answer, given, refused, lowest}
-use Rattle.refusals.specs.Writing.{writing, laid}
-use Rattle.words.specs.Words.{copied}
+use Rattle.refusals.specs.Writing.{writingBy, laid}
 use Rattle.packets.specs.Packets.{packetBytes, packetAnswer}
 use Rattle.packets.specs.declared.Fields.{Fields}
-use Rattle.blocks.specs.Blocks.{headerWords}
+use Rattle.bounds.specs.Bounds.{boundOf, lentRules}
+use Rattle.blocks.specs.Blocks.{headerWords, blockRules}
 use Rattle.blocks.specs.declared.Header.{Header}
-use Rattle.block_reader.specs.Reading.{blockAnswer}
 use Rattle.block_reader.specs.declared.Kind.the-variants.{Static}
+use Rattle.round_trips.specs.Blocks.{ReadsBack}
 use Rattle.command_reader.specs.Reading.{commandAnswer, restOf}
 use Rattle.steps.specs.Steps.{heardIn, silence}
 use Rattle.steps.specs.declared.Heard.{Heard}
@@ -201,14 +201,12 @@ CountsPackets bytes out r after = GivesCount (leftOver 13 7 (length bytes)) (goo
 abbrev pub headerOfZeros : Header
 headerOfZeros = record { «board_id» = 0; «firmware_id» = 0; «trigger_counter» = 0; timestamp = 0 }
 
--- the block written: of the words lent as many as it has, and zeros for those that are not there
-unfoldable pub staticOf : List ℕ → List ℕ
-staticOf block = headerWords headerOfZeros ++ copied block (replicate 436 0)
+-- what a writer of the static block with these words answers: 6 where they are not 436, then as of every static block
+abbrev pub staticAnswer : List ℕ → List ℕ → Answer ℕ
+staticAnswer block out = writingBy (blockRules (lentRules boundOf 436 block) headerOfZeros block out) (headerWords headerOfZeros ++ block)
 
-abbrev pub readAgain : Answer ℕ → List ℕ → ℕ
-readAgain (given n) words = answerNumber (blockAnswer Static words)
-readAgain (refused n p) words = n
-
+-- r is the number of that answer, 0 where the block is written, and the lent words `out` became `after`: what was written reads back
 pub record StaticRound (block out : List ℕ) (r : ℕ) (after : List ℕ) : Type 0 where
-  pub output : after ≡ laid (writing [] (staticOf block) out) (staticOf block) out
-  pub answer : r ≡ readAgain (writing [] (staticOf block) out) (staticOf block)
+  pub number : r ≡ answerNumber (staticAnswer block out)
+  pub output : after ≡ laid (staticAnswer block out) (headerWords headerOfZeros ++ block) out
+  pub reads : (n : ℕ) → staticAnswer block out ≡ given n → ReadsBack Static (take n after) headerOfZeros block

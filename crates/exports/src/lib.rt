@@ -405,11 +405,14 @@ pub extern "C" fn ftm_packets(bytes: &[u8], good: &mut [u64]) -> u8
     0
 }
 
-// Writes the static block of a board of ID 0 with these words, and reads it back: a refusal's number, 0 where it reads.
+// Writes the static block of a board of ID 0 with these words, and reads it back: a refusal's number, 0 where it is written.
 #[no_mangle]
 pub extern "C" fn ftm_static(block: &[u16], out: &mut [u16]) -> u8
     ensures { λ r. ⌜ StaticRound (now (block .entry)) (now (out .entry)) r (now (out .exit)) ⌝ }
 {
+    if block.len() != 436 {
+        return 6;
+    }
     let mut stored = [0u16; 436];
     copy_words(block, &mut stored);
     let header = Header {

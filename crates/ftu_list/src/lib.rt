@@ -3,14 +3,12 @@ ghost use mathlib.Core.Path.{_≡_};
 ghost use mathlib.Core.List.{[], _++_};
 ghost use Prim.Native.Nat.{_-_, _<_, _≤_};
 ghost use lib.ListN.{length, take, drop};
-ghost use Rattle.refusals.specs.Writing.{Wrote};
-ghost use Rattle.blocks.specs.Blocks.{headerWords};
+ghost use Rattle.blocks.specs.Blocks.{WroteBlock};
 ghost use Rattle.ftu_list.specs.List.{entryWords, entriesFrom, answered, listHead, listBody};
 use blocks::Header;
 use blocks::put_header;
 use configuration::address_of;
 use numbers::words64;
-use refusals::Refusal;
 use refusals::Written;
 use words::copy_words;
 
@@ -113,12 +111,13 @@ fn put_list(list: FtuList, body: &mut [u16])
 
 // Writes an FTU list to the front of the lent words.
 pub fn write_list(h: Header, list: FtuList, out: &mut [u16]) -> Written
-    ensures { λ r. ⌜ Wrote [] (headerWords h ++ listBody list) (now (out .entry)) r (now (out .exit)) ⌝ }
+    ensures { λ r. ⌜ WroteBlock [] 249 h (listBody list) (now (out .entry)) r (now (out .exit)) ⌝ }
 {
-    if out.len() < 260 {
-        return Written::Refused(Refusal::OutputTooShort);
+    match put_header(h, 249, out) {
+        Written::Length(_) => {
+            put_list(list, &mut out[11..]);
+            Written::Length(260)
+        }
+        Written::Refused(r) => Written::Refused(r),
     }
-    put_header(h, out);
-    put_list(list, &mut out[11..]);
-    Written::Length(260)
 }

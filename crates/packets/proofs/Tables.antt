@@ -22,4 +22,5 @@ read-exactly b = exactly (readRules b) (packetIn b) (read-rises b)
 -- the writer's table, with 19 after its own row
 pub write-exactly : (number : ℕ) (f : Fields) (out : List ℕ)
     → Exactly (writingRules (writeRules f) (packetBytes number f) out) (length (packetBytes number f)) (writing (writeRules f) (packetBytes number f) out)
-write-exactly number f out = writing-exactly (writeRules f) (packetBytes number f) out tt
+unfolding writingRules
+write-exactly number f out = writing-exactly (writingRules (writeRules f) (packetBytes number f) out) (packetBytes number f) out tt

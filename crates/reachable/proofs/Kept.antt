@@ -6,7 +6,6 @@ use mathlib.Core.Bool.{true, false}
 use mathlib.Core.List.{List, [], _∷_}
 use lib.ListN.{take}
 use Rattle.refusals.specs.Tables.{Answer, given, refused}
-use Rattle.refusals.specs.Writing.{Wrote}
 use Rattle.refusals.specs.declared.Written.the-variants.{Length}
 use Rattle.commands.specs.declared.Command.{Command}
 use Rattle.commands.specs.declared.Command.the-variants.{Read, Write, Start, Stop, Ping, CrateReset}
@@ -16,7 +15,7 @@ use Rattle.round_trips.specs.Blocks.{ReadsBack}
 use Rattle.board.specs.State.{withRun, freshBoard}
 use Rattle.board.specs.Commands.{boardAnswer, pinged, afterCommand, boardAfter}
 use Rattle.board.specs.declared.Board.{Board}
-use Rattle.board.specs.SentOut.{headerOf, staticDue}
+use Rattle.board.specs.SentOut.{headerOf, SendsStatic}
 use Rattle.reachable.specs.Calls.{Call, command, clockStep, trigger, reply, timeUp, afterCall, afterAll, isWrite, noWrite}
 use Rattle.reachable.specs.Reachable.{Reachable}
 use Rattle.reachable.proofs.Holding.{holds-reachable, holds-power-up}
@@ -63,9 +62,11 @@ module _ (id firmware : ℕ) (i : id < 2 ^ 57) (f : firmware < 65536) (before : 
   later = afterAll (boardAfter now w) xs
 
   reachable-later : Reachable later
-  reachable-later = holds-reachable later (holds-all (boardAfter now w) xs (holds-command now w (holds-all (freshBoard id firmware) before (holds-power-up id firmware i f))))
+  reachable-later =
+      holds-reachable later
+      (holds-all (boardAfter now w) xs (holds-command now w (holds-all (freshBoard id firmware) before (holds-power-up id firmware i f))))
 
   pub static-kept : boardAnswer now w ≡ given Write → noWrite (boardAfter now w) xs ≡ true
-      → (out after : List ℕ) (n : ℕ) → Wrote [] (staticDue later) out (Length n) after → ReadsBack Static (take n after) (headerOf later) (blockOf w)
+      → (out after : List ℕ) (n : ℕ) → SendsStatic later out (Length n) after → ReadsBack Static (take n after) (headerOf later) (blockOf w)
   static-kept e free out after n wrote =
       subst (ReadsBack Static (take n after) (headerOf later)) (block-kept now w e xs free) (static-reads later reachable-later out after n wrote)

@@ -28,7 +28,7 @@ use Rattle.board.specs.State.{crateAt, activeWords, withRun, withCrates, freshB
 use Rattle.command_reader.specs.Reading.{blockOf}
 use Rattle.board.specs.Commands.{boardAnswer, written, pinged, afterCommand, boardAfter}
 use Rattle.board.specs.SlowControl.{boardReplied}
-use Rattle.board.specs.SentOut.{headerOf, listRules, listOf, listDue}
+use Rattle.board.specs.SentOut.{headerOf, listOf}
 use Rattle.board.specs.declared.Board.{Board}
 use Rattle.board.proofs.Serving.{board-high, board-low}
 use Rattle.any_order.specs.Steps.{Event}
@@ -116,7 +116,7 @@ same-calls β (x ∷ xs) h e n =
 
 -- a board whose list has that body gives it
 gives-list : (β : Board) (body : List ℕ) → listBody (listOf β) ≡ body → GivesList β body
-gives-list β body e out after n w = wrote-front (listRules β) (listDue β) out n after w ∙ ap (λ (l : List ℕ). headerWords (headerOf β) ++ l) e
+gives-list β body e out after n w = wrote-front _ _ out n after (w .wrote) ∙ ap (λ (l : List ℕ). headerWords (headerOf β) ++ l) e
 
 module _ (id firmware : ℕ) (i : id < 2 ^ 57) (f : firmware < 65536) where
   module _ (before xs : List Call) where

@@ -8,11 +8,11 @@ use native.Mathlib.Omega.{arith}
 use lib.Dec.{ltb}
 use borrow.Author.Tests.{ltb-true, ltb-false}
 use Rattle.refusals.specs.Tables.{Answer, given, refused}
-use Rattle.refusals.specs.Writing.{writing}
+use Rattle.refusals.specs.Writing.{writingBy}
 use Rattle.refusals.proofs.Writing.{wrote-front}
 use Rattle.commands.specs.declared.Command.{Command}
 use Rattle.commands.specs.declared.Command.the-variants.{Read, Write, Start, Stop, Ping, CrateReset}
-use Rattle.blocks.specs.Blocks.{headerWords}
+use Rattle.blocks.specs.Blocks.{headerWords, blockRules}
 use Rattle.steps.specs.declared.Heard.{Heard}
 use Rattle.run.specs.declared.Run.{Run}
 use Rattle.four_crates.specs.FourCrates.{inPass, sentOn, failedAt, records}
@@ -21,7 +21,6 @@ use Rattle.board.specs.State.{withRun, freshBoard}
 use Rattle.command_reader.specs.Reading.{blockOf}
 use Rattle.board.specs.Commands.{boardAnswer, written, pinged, carriedOut, afterCommand, boardAfter}
 use Rattle.board.specs.SlowControl.{boardReplied, sentAnswer}
-use Rattle.board.specs.SentOut.{failureRules, failureDue}
 use Rattle.board.specs.declared.Board.{Board}
 use Rattle.board.proofs.Serving.{board-high}
 use Rattle.reachable.specs.Calls.{Call, command, clockStep, trigger, reply, timeUp, afterCall, afterAll, beginsPass, isWriteOrPing, noWriteOrPing}
@@ -73,14 +72,14 @@ calls-run β (x ∷ xs) d e =
 -- ---- so what the last pass left stays
 
 stays-run : (β : Board) (r : Run) → PassStays β (withRun β r)
-unfolding withRun writing headerWords
+unfolding withRun writingBy blockRules headerWords
 stays-run β r =
     record {
       number = λ c. refl;
       kept = refl;
       frame = λ f. refl;
       answer = λ n out. refl;
-      message = λ n out after m w. wrote-front (failureRules (withRun β r) n) (failureDue (withRun β r) n) out m after w;
+      message = λ n out after m w. wrote-front _ _ out m after (w .wrote);
       rest = refl;
     }
 

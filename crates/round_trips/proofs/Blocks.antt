@@ -1,82 +1,115 @@
--- Reading a block that was written gives its header and its body back, for each of the four kinds; and so do its bytes on the wire.
+-- Reading a block that was written gives its header and its body back, for each of the four kinds, from the writer's own contract: for every
+-- header, body and lent output. And so do its bytes on the wire.
 -- Assumes nothing.
-use Prim.Native.Nat.{ℕ, suc, _+_, _≤_}
+use Prim.Native.Nat.{ℕ, _+_, _%_, _^_, _<_, _≤_}
 use mathlib.Core.Path.{_≡_, refl, sym, ap, _∙_}
 use mathlib.Core.List.{List, [], _∷_, _++_}
+use native.Mathlib.Nat.{mod-eq-of-lt}
 use native.Mathlib.Omega.{arith}
 use lib.ListN.{length, take, length-append}
 use Rattle.refusals.specs.Tables.{given, Rule}
-use Rattle.refusals.specs.Writing.{Wrote}
 use Rattle.refusals.specs.declared.Written.the-variants.{Length}
-use Rattle.refusals.proofs.Tables.{Clear}
 use Rattle.refusals.proofs.Writing.{wrote-front}
 use Rattle.words.specs.Words.{wordsIn, bytesOf}
+use Rattle.numbers.specs.Numbers.{digits, number}
 use Rattle.numbers.proofs.Numbers.{number-digits}
-use Rattle.words.proofs.Bytes.{Below, words-back}
-use Rattle.bounds.specs.Bounds.{boundOf, measurementBound, lowestAbove}
-use Rattle.bounds.proofs.Lent.{lent-length, lent-within}
-use Rattle.blocks.specs.Blocks.{headerWords, dynamicBody, measurementRules, failureBody}
+use Rattle.words.proofs.Bytes.{Below, words-same}
+use Rattle.bounds.specs.Bounds.{boundOf, measurementBound}
+use Rattle.bounds.proofs.Lent.{above-within, lent-within}
+use Rattle.blocks.specs.Blocks.{headerWords, staticRules, dynamicBody, measurementRules, failureBody, blockRules, WroteBlock, WroteStatic, WroteDynamic}
 use Rattle.blocks.specs.declared.Header.{Header}
+use Rattle.blocks.proofs.Laws.{length-header, block-length, block-clear, block-id}
 use Rattle.ftu_list.specs.List.{listBody}
 use Rattle.ftu_list.specs.declared.FtuList.{FtuList}
-use Rattle.ftu_list.proofs.Laws.{length-body}
-use Rattle.round_trips.specs.Blocks.{Sound, ReadsBack}
+use Rattle.round_trips.specs.Blocks.{asSent, ReadsBack}
 use Rattle.block_reader.specs.Reading.{bodyLength, placeAbove, headerIn, blockAnswer, bodyWhere}
 use Rattle.block_reader.specs.declared.Kind.{Kind}
 use Rattle.block_reader.specs.declared.Kind.the-variants.{Static, Dynamic, FtuList as List′, Failure}
 use Rattle.block_reader.proofs.Laws.{read-header}
 
-module _ (h : Header) (s : Sound h) where
-  header-back : (b : List ℕ) → h ≡ headerIn (headerWords h ++ b)
-  unfolding headerIn headerWords
-  header-back b = λ i. record {
-    «board_id» = sym (number-digits 65536 (omega arith) 4 (h .«board_id») (let k = s .id in omega arith)) i;
-    «firmware_id» = h .«firmware_id»;
-    «trigger_counter» = sym (number-digits 65536 (omega arith) 2 (h .«trigger_counter») (s .counter)) i;
-    timestamp = sym (number-digits 65536 (omega arith) 3 (h .timestamp) (s .time)) i;
-  }
+header-back : (h : Header) (b : List ℕ) → h .«board_id» < 2 ^ 57 → asSent h ≡ headerIn (headerWords h ++ b)
+unfolding headerIn headerWords
+header-back h b id =
+    let low : h .«board_id» % 65536 ^ 4 ≡ h .«board_id» = mod-eq-of-lt (let k : h .«board_id» < 65536 ^ 4 = omega arith in k) in
+    λ i. record {
+      «board_id» = sym (number-digits 65536 (omega arith) 4 (h .«board_id») ∙ low) i;
+      «firmware_id» = h .«firmware_id»;
+      «trigger_counter» = sym (number-digits 65536 (omega arith) 2 (h .«trigger_counter»)) i;
+      timestamp = sym (number-digits 65536 (omega arith) 3 (h .timestamp)) i;
+    }
 
-  -- for a body of the kind's length, none of whose words is above its bound
-  pub read-back : (kind : Kind) (b : List ℕ) → length b ≡ bodyLength kind → bodyLength kind ≤ placeAbove kind b → ReadsBack kind (headerWords h ++ b) h b
-  unfolding headerWords
-  read-back kind b l free =
-      let n : length (headerWords h ++ b) ≡ 11 + bodyLength kind = length-append (headerWords h) b ∙ ap (λ (k : ℕ). 11 + k) l in
-      let e : blockAnswer kind (headerWords h ++ b) ≡ given h =
-      sym (read-header kind (headerWords h ++ b) n (placeAbove kind b) refl free h (header-back b) (s .id) refl) in
-      record { header = e; body = ap (λ a. bodyWhere a b) e }
+-- the words of a block whose body has the kind's length, and no word above its bound
+read-back : (kind : Kind) (h : Header) (b : List ℕ) → h .«board_id» < 2 ^ 57 → length b ≡ bodyLength kind → bodyLength kind ≤ placeAbove kind b
+    → ReadsBack kind (headerWords h ++ b) (asSent h) b
+unfolding headerWords
+read-back kind h b id l free =
+    let n : length (headerWords h ++ b) ≡ 11 + bodyLength kind = length-append (headerWords h) b ∙ ap (λ (k : ℕ). 11 + k) l in
+    let e : blockAnswer kind (headerWords h ++ b) ≡ given (asSent h) =
+    sym (read-header kind (headerWords h ++ b) n (placeAbove kind b) refl free (asSent h) (header-back h b id) id refl) in
+    record { header = e; body = ap (λ a. bodyWhere a b) e }
 
-  -- ---- what each writer writes
+-- the first n words of the lent output, as the writer says that it wrote them
+module _ (own : List Rule) (kind : Kind) (h : Header) (b out : List ℕ) (n : ℕ) (after : List ℕ)
+    (w : WroteBlock own (bodyLength kind) h b out (Length n) after) where
+  pub written-back : bodyLength kind ≤ placeAbove kind b → ReadsBack kind (take n after) (asSent h) b
+  written-back free =
+      rw (wrote-front (blockRules own h b out) (headerWords h ++ b) out n after (w .wrote))
+      (read-back kind h b (block-id own _ h b out n after w) (block-length own _ h b out n after w) free)
 
-  pub static-back : (block : List ℕ) → length block ≡ 436 → 436 ≤ lowestAbove boundOf 0 block → ReadsBack Static (headerWords h ++ block) h block
-  static-back block l free = read-back Static block l free
+-- ---- the four kinds
 
-  pub dynamic-back : (t : ℕ) (m : List ℕ) → Clear (measurementRules m) → ReadsBack Dynamic (headerWords h ++ dynamicBody t m) h (dynamicBody t m)
-  dynamic-back t m c =
-      let free = lent-within measurementBound 484 m c in
-      read-back Dynamic (dynamicBody t m) (ap (λ (k : ℕ). suc (suc (suc k))) (lent-length measurementBound 484 m c)) (omega arith)
+module _ (h : Header) (out : List ℕ) (n : ℕ) (after : List ℕ) where
+  pub static-back : (block : List ℕ) → WroteStatic h block out (Length n) after → ReadsBack Static (take n after) (asSent h) block
+  static-back block w =
+      written-back (staticRules block) Static h block out n after w
+      (above-within boundOf 436 block (block-clear (staticRules block) 436 h block out n after w))
 
-  pub list-back : (l : FtuList) → length (l .entries) ≡ 40 → ReadsBack List′ (headerWords h ++ listBody l) h (listBody l)
-  list-back l n = let k = length-body l n in read-back List′ (listBody l) k (omega arith)
+  pub dynamic-back : (t : ℕ) (m : List ℕ) → WroteDynamic h t m out (Length n) after → ReadsBack Dynamic (take n after) (asSent h) (dynamicBody t m)
+  dynamic-back t m w =
+      let free = lent-within measurementBound 484 m (block-clear (measurementRules m) 487 h (dynamicBody t m) out n after w) in
+      written-back (measurementRules m) Dynamic h (dynamicBody t m) out n after w (omega arith)
 
-  pub failure-back : (calls : ℕ) (frame : List ℕ) → length frame ≡ 28 → ReadsBack Failure (headerWords h ++ failureBody calls frame) h (failureBody calls frame)
-  failure-back calls frame n = read-back Failure (failureBody calls frame) (ap suc n) (omega arith)
+  -- whatever rows the board puts in front
+  module _ (own : List Rule) where
+    pub list-back : (l : FtuList) → WroteBlock own 249 h (listBody l) out (Length n) after → ReadsBack List′ (take n after) (asSent h) (listBody l)
+    list-back l w =
+        let k = block-length own 249 h (listBody l) out n after w in
+        written-back own List′ h (listBody l) out n after w (omega arith)
 
-  -- ---- from the lent output, and from the wire
+    pub failure-back : (calls : ℕ) (frame : List ℕ) → WroteBlock own 29 h (failureBody calls frame) out (Length n) after
+        → ReadsBack Failure (take n after) (asSent h) (failureBody calls frame)
+    failure-back calls frame w =
+        let k = block-length own 29 h (failureBody calls frame) out n after w in
+        written-back own Failure h (failureBody calls frame) out n after w (omega arith)
 
-  -- the words that a writer says that it wrote
-  pub written-back : (kind : Kind) (b : List ℕ) (rules : List Rule) (out after : List ℕ) (n : ℕ) → Wrote rules (headerWords h ++ b) out (Length n) after
-      → ReadsBack kind (headerWords h ++ b) h b → ReadsBack kind (take n after) h b
-  written-back kind b rules out after n w r = rw (wrote-front rules (headerWords h ++ b) out n after w) r
+-- ---- what the numbers read back as
 
-  below-append : (a b : List ℕ) → Below 65536 a → Below 65536 b → Below 65536 (a ++ b)
-  below-append [] b p q = q
-  below-append (x ∷ a) b p q = (p .0, below-append a b (p .1) q)
+-- a header whose numbers fit their words is as it was
+pub sent-whole : (h : Header) → h .«trigger_counter» < 2 ^ 32 → h .timestamp < 2 ^ 48 → asSent h ≡ h
+sent-whole h c t = λ i. record {
+  «board_id» = h .«board_id»;
+  «firmware_id» = h .«firmware_id»;
+  «trigger_counter» = mod-eq-of-lt c i;
+  timestamp = mod-eq-of-lt t i;
+}
 
-  header-below : Below 65536 (headerWords h)
-  unfolding headerWords
-  header-below =
-      (omega arith, (omega arith, (omega arith, (omega arith, (s .firmware, (omega arith, (omega arith, (omega arith, (omega arith, (omega arith, (omega arith, tt)))))))))))
+-- the on-time in a dynamic block's first three words: its lowest 48 bits
+pub on-time-back : (t : ℕ) (m : List ℕ) → number 65536 (take 3 (dynamicBody t m)) ≡ t % 2 ^ 48
+on-time-back t m = number-digits 65536 (omega arith) 3 t
 
-  -- the bytes of a block's words, on the wire, hold those words
-  pub wire-back : (b : List ℕ) → Below 65536 b → wordsIn (bytesOf (headerWords h ++ b)) ≡ headerWords h ++ b
-  wire-back b q = words-back (headerWords h ++ b) (below-append (headerWords h) b header-below q)
+-- ---- from the wire
+
+below-append : (a b : List ℕ) → Below 65536 a → Below 65536 b → Below 65536 (a ++ b)
+below-append [] b p q = q
+below-append (x ∷ a) b p q = (p .0, below-append a b (p .1) q)
+
+header-below : (h : Header) → h .«firmware_id» < 65536 → Below 65536 (headerWords h)
+unfolding headerWords
+header-below h f =
+    let low : Below 65536 (digits 65536 2 (h .«trigger_counter») ++ digits 65536 3 (h .timestamp) ++ (0 ∷ [])) =
+    (omega arith, (omega arith, (omega arith, (omega arith, (omega arith, (omega arith, tt)))))) in
+    (omega arith, (omega arith, (omega arith, (omega arith, (f, low)))))
+
+-- the bytes of a block's words hold those words, since they have 16 bits (of any numbers their lowest 16 bits: words/proofs/Bytes.antt)
+pub wire-back : (h : Header) (b : List ℕ) → h .«firmware_id» < 65536 → Below 65536 b → wordsIn (bytesOf (headerWords h ++ b)) ≡ headerWords h ++ b
+wire-back h b f q = words-same (headerWords h ++ b) (below-append (headerWords h) b (header-below h f) q)

@@ -4,12 +4,13 @@ use Prim.Native.Nat.{ℕ, zero, suc, _+_, _-_, _≤_}
 use mathlib.Core.Path.{_≡_, refl, sym, ap, _∙_}
 use mathlib.Core.Bool.{false}
 use mathlib.Core.List.{List, [], _++_, append-nil}
+use native.Mathlib.Nat.{mod-eq-of-lt}
 use native.Mathlib.Omega.{arith}
 use lib.ListN.{length, take, length-append}
 use lib.Seq.{take-at, drop-at}
 use borrow.Author.Tests.{ltb-false}
 use Rattle.refusals.specs.Tables.{given}
-use Rattle.refusals.specs.Writing.{Wrote}
+use Rattle.refusals.specs.Writing.{writingRules}
 use Rattle.refusals.specs.declared.Written.the-variants.{Length}
 use Rattle.refusals.proofs.Tables.{Clear}
 use Rattle.refusals.proofs.Writing.{wrote-front, wrote-clear}
@@ -23,8 +24,8 @@ use Rattle.commands.specs.declared.RunLength.the-variants.{Endless, Counted}
 use Rattle.commands.specs.declared.Command.{Command}
 use Rattle.commands.specs.declared.Command.the-variants.{Read, Write, Start, Stop, Ping, CrateReset}
 use Rattle.command_reader.proofs.Reading.{read-write, read-other}
-use Rattle.round_trips.specs.Commands.{CountFits, ReadsBack}
-use Rattle.command_writer.specs.Writing.{blockFor, commandWords, writeRules}
+use Rattle.round_trips.specs.Commands.{ReadsBack}
+use Rattle.command_writer.specs.Writing.{blockFor, commandWords, writeRules, CountFits, WroteCommand}
 
 module _ (b rest : List ℕ) where
   -- the words of c, with others after them
@@ -45,7 +46,7 @@ module _ (b rest : List ℕ) where
   named (Read Dynamic) k f = refl
   named Write k f = refl
   named (Start Endless) k f = refl
-  named (Start (Counted x)) k f = ap (λ (y : ℕ). given (Start (Counted y))) (number-digits 65536 (omega arith) 2 x f)
+  named (Start (Counted x)) k f = ap (λ (y : ℕ). given (Start (Counted y))) (number-digits 65536 (omega arith) 2 x ∙ mod-eq-of-lt f)
   named Stop k f = refl
   named Ping k f = refl
   named (CrateReset n) k f = reset-named n (ltb-false _ _ (k .0))
@@ -66,7 +67,8 @@ module _ (b rest : List ℕ) where
   long c k = let e = block-long c k in rw length-append (omega arith)
 
   -- a command other than a write
-  other : (c : Command) → Clear (writeRules c b) → CountFits c → noEvents c ≡ false → isWrite c ≡ false → given (taken c (5 + blockLength c)) ≡ commandAnswer (written c)
+  other : (c : Command) → Clear (writeRules c b) → CountFits c → noEvents c ≡ false → isWrite c ≡ false
+      → given (taken c (5 + blockLength c)) ≡ commandAnswer (written c)
   unfolding spareSet
   other c k f n v = read-other (written c) c (marked c k f) refl (long c k) n (5 + blockLength c) refl v
 
@@ -97,9 +99,16 @@ module _ (b rest : List ℕ) where
     rest-back = rw used-back (drop-at (commandWords c b) rest (5 + blockLength c) (let e = block-long c k in omega arith))
 
 -- what the writer wrote to the lent output, as it says how much
-pub written-back : (c : Command) (b out after : List ℕ) (n : ℕ) → CountFits c → Wrote (writeRules c b) (commandWords c b) out (Length n) after → ReadsBack (take n after) c b
-written-back c b out after n f w =
-    let k = wrote-clear (writeRules c b) (commandWords c b) out n after w in
-    let e : take n after ≡ commandWords c b ++ [] = wrote-front (writeRules c b) (commandWords c b) out n after w ∙ sym (append-nil (commandWords c b)) in
+pub written-back : (c : Command) (b out after : List ℕ) (n : ℕ) → WroteCommand c b out (Length n) after → ReadsBack (take n after) c b
+written-back c b out after n w =
+    let f = w .fits in
+    let k = wrote-clear (writeRules c b) (commandWords c b) out n after (w .wrote) in
+    let front = wrote-front (writingRules (writeRules c b) (commandWords c b) out) (commandWords c b) out n after (w .wrote) in
+    let e : take n after ≡ commandWords c b ++ [] = front ∙ sym (append-nil (commandWords c b)) in
     let l : length (commandWords c b ++ []) ≡ 5 + blockLength c = ap length (append-nil (commandWords c b)) ∙ (let q = block-long b [] c k in omega arith) in
-    rw e (record { command = sym (read-written b [] c k f) ∙ ap (λ (m : ℕ). given (taken c m)) (sym l); block = block-back b [] c k f; rest = rest-back b [] c k f })
+    rw e
+    (record {
+      command = sym (read-written b [] c k f) ∙ ap (λ (m : ℕ). given (taken c m)) (sym l);
+      block = block-back b [] c k f;
+      rest = rest-back b [] c k f;
+    })

@@ -1,24 +1,12 @@
 -- What it says that written words read back as a command.
-use Prim.Native.Nat.{ℕ, _^_, _<_}
+use Prim.Native.Nat.{ℕ}
 use mathlib.Core.Path.{_≡_}
 use mathlib.Core.List.{List, []}
 use lib.ListN.{length}
 use Rattle.refusals.specs.Tables.{given}
-use Rattle.commands.specs.declared.RunLength.the-variants.{Endless, Counted}
 use Rattle.commands.specs.declared.Command.{Command}
-use Rattle.commands.specs.declared.Command.the-variants.{Read, Write, Start, Stop, Ping, CrateReset}
 use Rattle.command_reader.specs.Reading.{taken, commandAnswer, restOf, blockOf}
 use Rattle.command_writer.specs.Writing.{blockFor}
-
--- X has 32 bits, as the command's type says
-abbrev pub CountFits : Command → Type 0
-CountFits (Read kind) = Unit
-CountFits Write = Unit
-CountFits (Start Endless) = Unit
-CountFits (Start (Counted x)) = x < 2 ^ 32
-CountFits Stop = Unit
-CountFits Ping = Unit
-CountFits (CrateReset n) = Unit
 
 -- the words w are the command c with the block b of a write, and nothing after it
 pub record ReadsBack (w : List ℕ) (c : Command) (b : List ℕ) : Type 0 where

@@ -1,3 +1,4 @@
 -- What the theorems say.
 pub mod Commands
 pub mod Blocks
+pub mod Packets

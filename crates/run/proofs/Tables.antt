@@ -17,14 +17,14 @@ use Rattle.run.specs.declared.Triggered.{Triggered}
 
 module _ (r : Run) (f : Fields) (out : List ℕ) where
   trigger-rises : T (rising (writingRules (triggerRules r f) (packetBytes (triggerNumber r) f) out))
-  unfolding triggerRules
+  unfolding triggerRules writingRules
   trigger-rises = tt
 
   -- 01, Numbers given when we say no: 15, 16, 17, then 19, and "Where several apply, the lowest is given"
   pub trigger-exactly :
       let due = packetBytes (triggerNumber r) f in
       Exactly (writingRules (triggerRules r f) due out) (length due) (triggerAnswer r f out)
-  trigger-exactly = writing-exactly (triggerRules r f) (packetBytes (triggerNumber r) f) out trigger-rises
+  trigger-exactly = writing-exactly (writingRules (triggerRules r f) (packetBytes (triggerNumber r) f) out) (packetBytes (triggerNumber r) f) out trigger-rises
 
   -- 01, Numbers given when we say no: "A refusal returns its number, the unchanged state where the call has one"; and the lent bytes stay
   pub nothing-lost : (t : Triggered) (after : List ℕ) → Triggers r f out t after → (n p : ℕ) → writtenOnPaper (t .answer) ≡ refused n p

@@ -12,7 +12,7 @@ use lib.ListN.{length, take, drop, set, getD, replicate, length-drop, length-rep
 use lib.Seq.{drop-cons, drop-drop, take-all, take-at, drop-nil}
 use borrow.Author.Tests.{ltb-false, lt-ltb, le-ltb}
 use Rattle.refusals.specs.Tables.{Answer, given, refused, Rule}
-use Rattle.refusals.specs.Writing.{writing, laid, Wrote}
+use Rattle.refusals.specs.Writing.{writingBy, writingRules, writing, laid, Wrote}
 use Rattle.refusals.specs.declared.Written.{Written}
 use Rattle.refusals.proofs.Tables.{Applies, refused-applies, refused-more}
 use Rattle.words.specs.Words.{wordsIn}
@@ -307,7 +307,7 @@ module _ (bytes : List ℕ) (count : ℕ) (β : Board) (answers rest : List ℕ)
 -- 32,768 words have room for those of 65,536 bytes
 pub words-written : (bytes out after : List ℕ) (r : Written) → length bytes ≤ 65536 → length out ≡ 32768 → Wrote [] (wordsIn bytes) out r after
     → take (length bytes / 2) after ≡ wordsIn bytes
-unfolding writing
+unfolding writingBy writingRules
 words-written bytes out after r short size w =
     let n = length-words bytes in
     let e : writing [] (wordsIn bytes) out ≡ given (length (wordsIn bytes)) = simp (le-ltb (length out) (length (wordsIn bytes)) (omega arith)) in

@@ -14,10 +14,10 @@ use Rattle.command_writer.proofs.put_count.Statement.{statement}
 use Rattle.command_writer.proofs.put_count.Tie as tie
 
 returns : tie.Need-returns
-returns c = wrote-refused _ _ _ NoEvents (simp (eq-eqb _ _ (c .if1 .taken)))
+returns c = record { wrote = wrote-refused _ _ _ NoEvents (simp (eq-eqb _ _ (c .if1 .taken))); fits = search needs }
 
 returns-2 : tie.Need-returns-2
-returns-2 c = wrote-short _ _ _ (ne-eqb _ _ (c .before .if1 .left), tt) 7 refl (omega arith)
+returns-2 c = record { wrote = wrote-short _ _ _ (ne-eqb _ _ (c .before .if1 .left), tt) 7 refl (omega arith); fits = search needs }
 
 words32-requires : tie.Need-words32-requires
 words32-requires c κs = search needs
@@ -38,7 +38,14 @@ same-length : tie.Need-same-length
 same-length c = search needs
 
 returns-3 : tie.Need-returns-3
-returns-3 c = wrote-copied _ (ne-eqb _ _ (c .before .before .before .before .before .before .before .if1 .left), tt) _ _ _ _ 7 refl (omega arith) (ap (λ (l : List ℕ). fiveWords 0x04 2 ++ (getD l 0 0 ∷ getD l 1 0 ∷ [])) (c .before .before .before .before .before .words32 .ensures)) (c .before .before .copy-words .ensures)
+returns-3 c =
+    record {
+      wrote =
+          wrote-copied _ (ne-eqb _ _ (c .before .before .before .before .before .before .before .if1 .left), tt) _ _ _ _ 7 refl (omega arith)
+          (ap (λ (l : List ℕ). fiveWords 0x04 2 ++ (getD l 0 0 ∷ getD l 1 0 ∷ [])) (c .before .before .before .before .before .words32 .ensures))
+          (c .before .before .copy-words .ensures);
+      fits = search needs;
+    }
 
 pub put-count-spec : {M : Type 1} → statement M
 put-count-spec =

@@ -66,49 +66,70 @@ same-length : tie.Need-same-length
 same-length c = search needs
 
 returns : tie.Need-returns
-returns c = command-is _ _ _ _ _ (Read Static) (c .before .before .before .before .before .before .before .c .given .1 ∙ ap Read (c .before .before .before .before .enum-told .given .1)) (c .before .before .put-five .ensures)
+returns c =
+    command-is _ _ _ _ _ (Read Static)
+    (c .before .before .before .before .before .before .before .c .given .1 ∙ ap Read (c .before .before .before .before .enum-told .given .1)) tt
+    (c .before .before .put-five .ensures)
 
 same-length-2 : tie.Need-same-length-2
 same-length-2 c = search needs
 
 returns-2 : tie.Need-returns-2
-returns-2 c = command-is _ _ _ _ _ (Read Dynamic) (c .before .before .before .before .before .before .before .c .given .1 ∙ ap Read (c .before .before .before .before .enum-told2 .given .1)) (c .before .before .put-five2 .ensures)
+returns-2 c =
+    command-is _ _ _ _ _ (Read Dynamic)
+    (c .before .before .before .before .before .before .before .c .given .1 ∙ ap Read (c .before .before .before .before .enum-told2 .given .1)) tt
+    (c .before .before .put-five2 .ensures)
 
 same-length-3 : tie.Need-same-length-3
 same-length-3 c = search needs
 
 returns-3 : tie.Need-returns-3
-returns-3 c = command-is _ _ _ _ _ (Write) (c .before .before .before .before .enum-told3 .given .1) (c .before .before .put-write .ensures)
+returns-3 c =
+    command-is _ _ _ _ _ Write (c .before .before .before .before .enum-told3 .given .1) tt
+    (c .before .before .put-write .ensures)
 
 same-length-4 : tie.Need-same-length-4
 same-length-4 c = search needs
 
 returns-4 : tie.Need-returns-4
-returns-4 c = command-is _ _ _ _ _ (Start Endless) (c .before .before .before .before .before .before .before .c2 .given .1 ∙ ap Start (c .before .before .before .before .enum-told4 .given .1)) (c .before .before .put-five3 .ensures)
+returns-4 c =
+    command-is _ _ _ _ _ (Start Endless)
+    (c .before .before .before .before .before .before .before .c2 .given .1 ∙ ap Start (c .before .before .before .before .enum-told4 .given .1)) tt
+    (c .before .before .put-five3 .ensures)
 
 same-length-5 : tie.Need-same-length-5
 same-length-5 c = search needs
 
 returns-5 : tie.Need-returns-5
-returns-5 c = command-is _ _ _ _ _ (Start (Counted _)) (c .before .before .before .before .before .before .before .before .c2 .given .1 ∙ ap Start (c .before .before .before .before .before .run .given .1)) (c .before .before .put-count .ensures)
+returns-5 c =
+    let put = c .before .before .put-count .ensures in
+    command-is _ _ _ _ _ (Start (Counted _))
+    (c .before .before .before .before .before .before .before .before .c2 .given .1 ∙ ap Start (c .before .before .before .before .before .run .given .1))
+    (put .fits) (put .wrote)
 
 same-length-6 : tie.Need-same-length-6
 same-length-6 c = search needs
 
 returns-6 : tie.Need-returns-6
-returns-6 c = command-is _ _ _ _ _ (Stop) (c .before .before .before .before .enum-told5 .given .1) (c .before .before .put-five4 .ensures)
+returns-6 c =
+    command-is _ _ _ _ _ Stop (c .before .before .before .before .enum-told5 .given .1) tt
+    (c .before .before .put-five4 .ensures)
 
 same-length-7 : tie.Need-same-length-7
 same-length-7 c = search needs
 
 returns-7 : tie.Need-returns-7
-returns-7 c = command-is _ _ _ _ _ (Ping) (c .before .before .before .before .enum-told6 .given .1) (c .before .before .put-five5 .ensures)
+returns-7 c =
+    command-is _ _ _ _ _ Ping (c .before .before .before .before .enum-told6 .given .1) tt
+    (c .before .before .put-five5 .ensures)
 
 same-length-8 : tie.Need-same-length-8
 same-length-8 c = search needs
 
 returns-8 : tie.Need-returns-8
-returns-8 c = command-is _ _ _ _ _ (CrateReset _) (c .before .before .before .before .before .c3 .given .1) (c .before .before .put-reset .ensures)
+returns-8 c =
+    command-is _ _ _ _ _ (CrateReset _) (c .before .before .before .before .before .c3 .given .1) tt
+    (c .before .before .put-reset .ensures)
 
 pub write-command-spec : {M : Type 1} → statement M
 write-command-spec =

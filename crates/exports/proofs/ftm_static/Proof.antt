@@ -1,13 +1,16 @@
 -- `exports::ftm_static` meets its contract. Assumes nothing.
-use Rattle.block_reader.specs.declared.BlockRead.{BlockRead}
 use denote.Ref.{now}
 use mathlib.Core.Path.{sym, ap, _∙_}
-use Rattle.block_reader.specs.Reading.{readOnPaper}
+use Rattle.refusals.specs.Writing.{writtenOnPaper}
+use Rattle.refusals.specs.declared.Written.{Written}
 use Rattle.exports.specs.Exports.{answerNumber}
-use Rattle.exports.proofs.Static.{front-length, front-fits, static-refused, static-read}
+use Rattle.exports.proofs.Static.{front-length, front-fits, static-unread, static-round, static-6, wrote-lent}
 use borrow.Author.Needs.{needs}
 use Rattle.exports.proofs.ftm_static.Statement.{statement}
 use Rattle.exports.proofs.ftm_static.Tie as tie
+
+returns : tie.Need-returns
+returns c = let a = c .before .before .before .args in static-6 (now (a .block)) (now (a .out)) (c .if1 .taken)
 
 slice-aggregate-copy-words : tie.Need-slice-aggregate-copy-words
 slice-aggregate-copy-words c = search needs
@@ -30,14 +33,22 @@ enum-known-n c = search needs
 slice-reshare-prefix-read-block : tie.Need-slice-reshare-prefix-read-block
 slice-reshare-prefix-read-block c =
     let at-n = c .before in
-    let written = at-n .before .before .before .before .write-static in
-    front-fits _ _ (written .result) _ (written .ensures) _ (at-n .n .given .1)
+    let written = at-n .before .before .before .before in
+    let copied = written .before .before .before in
+    let at-if = copied .before .before in
+    let block = now (at-if .before .before .before .args .block) in
+    let lent = wrote-lent block _ _ (at-if .if1 .left) (copied .copy-words .ensures) _ _ (written .write-static .ensures) in
+    front-fits _ _ (written .write-static .result) _ lent _ (at-n .n .given .1)
 
 slice-aggregate-read-block : tie.Need-slice-aggregate-read-block
 slice-aggregate-read-block c =
     let at-n = c .before .before in
-    let written = at-n .before .before .before .before .write-static in
-    front-length _ _ (written .result) _ (written .ensures) _ (at-n .n .given .1)
+    let written = at-n .before .before .before .before in
+    let copied = written .before .before .before in
+    let at-if = copied .before .before in
+    let block = now (at-if .before .before .before .args .block) in
+    let lent = wrote-lent block _ _ (at-if .if1 .left) (copied .copy-words .ensures) _ _ (written .write-static .ensures) in
+    front-length _ _ (written .write-static .result) _ lent _ (at-n .n .given .1)
 
 read-block-requires : tie.Need-read-block-requires
 read-block-requires c κs = search needs
@@ -54,45 +65,51 @@ number-requires-2 c κs = search needs
 same-length : tie.Need-same-length
 same-length c = search needs
 
-returns : tie.Need-returns
-returns c =
+returns-2 : tie.Need-returns-2
+returns-2 c =
     let at-r = c .before .before in
     let written = at-r .before .before .before .before in
     let copied = written .before .before .before in
-    static-refused (now (copied .before .before .before .before .args .block)) _ _ (copied .copy-words .ensures) _ _ (written .write-static .ensures) _ _
-    (at-r .r .given .1) (c .number .ensures)
+    let at-if = copied .before .before in
+    let block = now (at-if .before .before .before .args .block) in
+    let lent = wrote-lent block _ _ (at-if .if1 .left) (copied .copy-words .ensures) _ _ (written .write-static .ensures) in
+    static-round _ _ (written .write-static .result) _ lent _
+    (c .number .ensures ∙ ap (λ (w : Written). answerNumber (writtenOnPaper w)) (sym (at-r .r .given .1)))
 
 same-length-2 : tie.Need-same-length-2
 same-length-2 c = search needs
 
-returns-2 : tie.Need-returns-2
-returns-2 c =
-    let at-read = c .before .before in
-    let at-n = at-read .before .before .before in
+returns-3 : tie.Need-returns-3
+returns-3 c =
+    let at-n = c .before .before .before .before .before in
     let written = at-n .before .before .before .before in
     let copied = written .before .before .before in
-    static-read (now (copied .before .before .before .before .args .block)) _ _ (copied .copy-words .ensures) _ _ (written .write-static .ensures) _ _
-    (at-n .n .given .1) (at-read .read-block .result) (at-read .read-block .ensures)
-    (ap (λ (b : BlockRead). answerNumber (readOnPaper b)) (sym (c .enum-told .given .1)))
+    let at-if = copied .before .before in
+    let block = now (at-if .before .before .before .args .block) in
+    let lent = wrote-lent block _ _ (at-if .if1 .left) (copied .copy-words .ensures) _ _ (written .write-static .ensures) in
+    static-round _ _ (written .write-static .result) _ lent 0 (ap (λ (w : Written). answerNumber (writtenOnPaper w)) (sym (at-n .n .given .1)))
 
 same-length-3 : tie.Need-same-length-3
 same-length-3 c = search needs
 
-returns-3 : tie.Need-returns-3
-returns-3 c =
+returns-4 : tie.Need-returns-4
+returns-4 c =
     let at-r = c .before .before in
     let at-read = at-r .before .before in
     let at-n = at-read .before .before .before in
     let written = at-n .before .before .before .before in
     let copied = written .before .before .before in
-    static-read (now (copied .before .before .before .before .args .block)) _ _ (copied .copy-words .ensures) _ _ (written .write-static .ensures) _ _
-    (at-n .n .given .1) (at-read .read-block .result) (at-read .read-block .ensures)
-    (c .number2 .ensures ∙ ap (λ (b : BlockRead). answerNumber (readOnPaper b)) (sym (at-r .r2 .given .1)))
+    let at-if = copied .before .before in
+    let block = now (at-if .before .before .before .args .block) in
+    let lent = wrote-lent block _ _ (at-if .if1 .left) (copied .copy-words .ensures) _ _ (written .write-static .ensures) in
+    static-unread _ _ (written .write-static .result) _ lent _ (at-n .n .given .1) _ (at-read .read-block .result) (at-r .r2 .given .1)
+    (at-read .read-block .ensures)
 
 pub ftm-static-spec : {M : Type 1} → statement M
 ftm-static-spec =
     tie.close
     (tie.spec
+    returns
     slice-aggregate-copy-words
     copy-words-requires
     write-static-requires
@@ -106,8 +123,8 @@ ftm-static-spec =
     enum-known-r-2
     number-requires-2
     same-length
-    returns
-    same-length-2
     returns-2
+    same-length-2
+    returns-3
     same-length-3
-    returns-3)
+    returns-4)

@@ -3,7 +3,7 @@ use mathlib.Core.Path.{_≡_}
 use mathlib.Core.List.{[]}
 use lib.ListN.{length}
 use denote.Ref.{now}
-use Rattle.blocks.proofs.Laws.{block-short, block-wrote}
+use Rattle.blocks.proofs.Laws.{header-room, block-refused, block-wrote}
 use Rattle.ftu_list.specs.List.{listBody}
 use Rattle.ftu_list.proofs.Laws.{length-body, length-mapped}
 use borrow.Author.Needs.{needs}
@@ -11,46 +11,77 @@ use native.Mathlib.Omega.{arith}
 use Rattle.ftu_list.proofs.write_list.Statement.{statement}
 use Rattle.ftu_list.proofs.write_list.Tie as tie
 
-returns : tie.Need-returns
-returns c =
-    let a = c .before .before .args in
-    let n : length (a .list .entries) ≡ 40 = search length-mapped depth 8 in
-    block-short [] tt (a .h) (listBody (a .list)) _ 249 (length-body (a .list) n) (omega arith)
-
 put-header-requires : tie.Need-put-header-requires
 put-header-requires c κs = search needs
 
+enum-told : tie.Need-enum-told
+enum-told c = search needs
+
 sub-put-list : tie.Need-sub-put-list
-sub-put-list c = search needs
+sub-put-list c =
+    let told = c in
+    let put = told .before .before .before .before .put-header in
+    let a = told .before .before .before .before .before .before .before .args in
+    let room = header-room (a .h) 260 (now (a .out)) (put .result) _ (put .ensures) _ (told .enum-told .given .1) in
+    omega arith
 
 part-put-list-start : tie.Need-part-put-list-start
-part-put-list-start c = search needs
+part-put-list-start c =
+    let told = c in
+    let put = told .before .before .before .before .put-header in
+    let a = told .before .before .before .before .before .before .before .args in
+    let room = header-room (a .h) 260 (now (a .out)) (put .result) _ (put .ensures) _ (told .enum-told .given .1) in
+    omega arith
 
 part-put-list-end : tie.Need-part-put-list-end
 part-put-list-end c = search needs
 
 put-list-requires : tie.Need-put-list-requires
-put-list-requires c κs = search needs
+put-list-requires c κs =
+    let told = c .before in
+    let put = told .before .before .before .before .put-header in
+    let a = told .before .before .before .before .before .before .before .args in
+    let room = header-room (a .h) 260 (now (a .out)) (put .result) _ (put .ensures) _ (told .enum-told .given .1) in
+    omega arith
+
+enum-known-r : tie.Need-enum-known-r
+enum-known-r c = search needs
 
 same-length : tie.Need-same-length
 same-length c = search needs
 
+returns : tie.Need-returns
+returns c =
+    let told = c .before .before .before .before in
+    let put = told .before .before .before .before .put-header in
+    let start = c .before .before .before .before .before .before .before .before .before .before .before in
+    let a = start .args in
+    let n : length (a .list .entries) ≡ 40 = search (length-mapped, start .good) depth 8 in
+    block-wrote [] tt (a .h) (listBody (a .list)) (now (a .out)) 249 (length-body (a .list) n) (put .result) _ (put .ensures) _ (told .enum-told .given .1)
+    _ (c .before .before .put-list .ensures)
+
+same-length-2 : tie.Need-same-length-2
+same-length-2 c = search needs
+
 returns-2 : tie.Need-returns-2
 returns-2 c =
-    let a = c .before .before .before .before .before .before .before .before .before .before .args in
+    let put = c .before .before .before .before .before .put-header in
+    let a = c .before .before .before .before .before .before .before .before .args in
     let n : length (a .list .entries) ≡ 40 = search length-mapped depth 8 in
-    block-wrote [] tt (a .h) (listBody (a .list)) (now (a .out)) 249 (length-body (a .list) n) _ _ (omega arith)
-    (c .before .before .before .before .before .before .put-header .ensures) (c .before .before .put-list .ensures)
+    block-refused [] tt (a .h) (listBody (a .list)) (now (a .out)) 249 (length-body (a .list) n) (put .result) _ (put .ensures) _ (c .before .r .given .1)
 
 pub write-list-spec : {M : Type 1} → statement M
 write-list-spec =
     tie.close
     (tie.spec
-    returns
     put-header-requires
+    enum-told
     sub-put-list
     part-put-list-start
     part-put-list-end
     put-list-requires
+    enum-known-r
     same-length
+    returns
+    same-length-2
     returns-2)

@@ -1,8 +1,8 @@
 -- `board::Board::failure_message` meets its contract. Assumes nothing.
 use mathlib.Core.Path.{sym, ap, _∙_}
 use Rattle.refusals.specs.declared.Refusal.the-variants.{NotAcceptedNow}
-use Rattle.refusals.proofs.Writing.{wrote-refused}
 use Rattle.four_crates.specs.FourCrates.{recordOnPaper}
+use Rattle.blocks.proofs.Laws.{block-own}
 use Rattle.board.proofs.Sending.{failure-9, failure-refused, failure-found}
 use borrow.Author.Needs.{needs}
 use Rattle.board.proofs.Board.failure_message.Statement.{statement}
@@ -15,7 +15,7 @@ returns : tie.Need-returns
 returns c =
     let at-pass = c .before in
     let a = at-pass .before .before .before .before .args in
-    wrote-refused _ _ _ NotAcceptedNow (failure-9 (a .self) (a .ordinal) (sym (at-pass .in-pass .ensures) ∙ c .if1 .taken))
+    block-own _ 29 _ _ _ NotAcceptedNow (failure-9 (a .self) (a .ordinal) (sym (at-pass .in-pass .ensures) ∙ c .if1 .taken))
 
 record-at-requires : tie.Need-record-at-requires
 record-at-requires c κs = search needs
