@@ -218,10 +218,9 @@ pub extern "C" fn ftm_pass(words: &[u16], items: &[u8], good: &mut [u64]) -> u8
 }
 
 // How many replies of the items are good, each by a call on the whole board.
-fn good_on_board(first: Board, items: &[u8]) -> u64
-    ensures { λ r. ⌜ r ≡ goodOf (length (now (items .entry)) / 29) first (now (items .entry)) ⌝ }
+fn good_on_board(mut board: Board, items: &[u8]) -> u64
+    ensures { λ r. ⌜ r ≡ goodOf (length (now (items .entry)) / 29) board (now (items .entry)) ⌝ }
 {
-    let mut board = first;
     let mut good = 0;
     let n = items.len() / 29;
     let mut i = 0;
