@@ -8,7 +8,7 @@ use mathlib.Core.List.{List, [], _∷_, _++_}
 use lib.Dec.{eqb, ltb}
 use lib.ListN.{length, drop, set}
 use borrow.Author.Tests.{eq-eqb, ne-eqb, eqb-true, eqb-false, lt-ltb, le-ltb, ltb-true, ltb-false}
-use Rattle.exports.specs.Exports.{lowerOf, noRoom, holds, Gives, GivesCount}
+use Rattle.exports.specs.Exports.{lowerOf, firstOf, noRoom, holds, Gives, GivesCount}
 
 -- ---- the lower of two numbers
 
@@ -41,6 +41,16 @@ module _ (m n : ℕ) where
       go false p true q u e = absurd (eqb-false m 0 p e)
       go false p false q true e = absurd (eqb-false n 0 q e)
       go false p false q false e = absurd (eqb-false m 0 p e)
+
+-- the first of two
+module _ (m n : ℕ) where
+  pub first-later : m ≡ 0 → n ≡ firstOf m n
+  unfolding firstOf
+  first-later e = rw (eq-eqb m 0 e) refl
+
+  pub first-there : (m ≡ 0 → ⊥) → m ≡ firstOf m n
+  unfolding firstOf
+  first-there h = rw (ne-eqb m 0 h) refl
 
 -- ---- room
 

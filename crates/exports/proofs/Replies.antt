@@ -17,12 +17,12 @@ use Rattle.crate_pass.specs.declared.Outcome.{Outcome}
 use Rattle.crate_pass.specs.declared.Crate.{Crate}
 use Rattle.crate_pass.specs.declared.CrateServed.{CrateServed}
 use Rattle.four_crates.specs.FourCrates.{crateOf}
-use Rattle.board.specs.State.{withCrates}
+use Rattle.board.specs.State.{freshBoard, withCrates}
 use Rattle.board.specs.SlowControl.{frameAt, replyAnswer, boardReplied, Replies}
 use Rattle.board.specs.declared.Board.{Board}
 use Rattle.board.specs.declared.Replied.{Replied}
 use Rattle.board.proofs.Serving.{answer-high, board-high, answer-low, board-low}
-use Rattle.exports.specs.Exports.{goodOutcome, goodOf, passOf}
+use Rattle.exports.specs.Exports.{firstRefusal, goodOutcome, goodOf, passOf, passRefusal}
 use Rattle.exports.specs.Parts.{holding, CountsGood, ObeysAll}
 use Rattle.exports.specs.declared.AfterCommands.{AfterCommands}
 use Rattle.exports.proofs.Packets.{past, one-left}
@@ -116,3 +116,7 @@ module _ (w : List ℕ) (b : AfterCommands) (obeyed : ObeysAll 1 w b) where
   pub pass-on-crates : (items : List ℕ) (r : ℕ) → CountsGood (b .board .block) (b .board .kind) (b .board .crates) items r → r ≡ passOf w items
   unfolding holding
   pass-on-crates items r g = pass-on-board items r (g (b .board))
+
+  -- what refuses the call
+  pub pass-refused : (n room r : ℕ) → r ≡ passRefusal (b .refusal) n room → r ≡ passRefusal (firstRefusal 1 (freshBoard 0 0) w) n room
+  pass-refused n room r e = e ∙ ap (λ (k : ℕ). passRefusal k n room) (obeyed .refusal)

@@ -38,5 +38,6 @@ module _ (crates : List ℕ) (i : ℕ) (β : Board) (served total : ℕ) (inv : 
   time-up-end h = let z = ap (servedOf β) (drop-of-length-le crates {i = i} h) in omega arith
 
 -- after one command
-pub served-after : (w : List ℕ) (b : AfterCommands) → ObeysAll 1 w b → (crates : List ℕ) (r : ℕ) → r ≡ servedOf (b .board) crates → r ≡ servedOf (afterOne w) crates
+pub served-after : (w : List ℕ) (b : AfterCommands) → ObeysAll 1 w b → (crates : List ℕ) (r : ℕ)
+    → r ≡ servedOf (b .board) crates → r ≡ servedOf (afterOne w) crates
 served-after w b obeyed crates r e = e ∙ ap (λ (β : Board). servedOf β crates) (obeyed .board)

@@ -1,7 +1,7 @@
 -- What the exported functions give, in the terms of the board.
 use Prim.Native.Nat.{ℕ, zero, suc, _+_, _*_, _/_, _%_}
 use mathlib.Core.Path.{_≡_}
-use mathlib.Core.Bool.{Bool, false, cond}
+use mathlib.Core.Bool.{false, cond}
 use mathlib.Core.List.{List, [], _∷_, _++_}
 use lib.Dec.{eqb, ltb}
 use lib.ListN.{length, getD, take, drop, replicate}
@@ -122,10 +122,12 @@ goodOf (suc n) β items =
 unfoldable pub passOf : List ℕ → List ℕ → ℕ
 passOf w items = goodOf (length items / 29) (afterOne w) items
 
--- the first command refuses the call where it is refused, and 6 says that the items are not of 29 bytes each
+-- what refuses the call: its command, or 6 where the items are not of 29 bytes each, or 19
+abbrev pub passRefusal : ℕ → ℕ → ℕ → ℕ
+passRefusal command n room = lowerOf (lowerOf command (leftOver 6 29 n)) (noRoom 1 room)
+
 abbrev pub CountsPass : List ℕ → List ℕ → List ℕ → ℕ → List ℕ → Type 0
-CountsPass w items out r after =
-    GivesCount (lowerOf (firstRefusal 1 (freshBoard 0 0) w) (leftOver 6 29 (length items))) (passOf w items) out r after
+CountsPass w items out r after = Gives (passRefusal (firstRefusal 1 (freshBoard 0 0) w) (length items) (length out)) (passOf w items ∷ []) out r after
 
 -- how many time-ups are served, one after another on these crates
 unfoldable pub servedOf : Board → List ℕ → ℕ

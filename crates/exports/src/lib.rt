@@ -9,7 +9,7 @@ ghost use Rattle.packets.specs.Packets.{packetAnswer};
 ghost use Rattle.crate_pass.specs.Crate.{replyOnPaper};
 ghost use Rattle.acceptance.specs.Acceptance.{answerOnPaper};
 ghost use Rattle.exports.specs.Exports.{answerNumber, isGiven, lowerOf, firstOf, leftOver, noRoom, commandGiven, CountsAccepted};
-ghost use Rattle.exports.specs.Exports.{goodOutcome, goodOf, CountsPass, servedOf, CountsTimeUps, MakesSteps, GivesTriggers};
+ghost use Rattle.exports.specs.Exports.{goodOutcome, goodOf, passRefusal, CountsPass, servedOf, CountsTimeUps, MakesSteps, GivesTriggers};
 ghost use Rattle.exports.specs.Exports.{goodPackets, CountsPackets, StaticRound};
 ghost use Rattle.exports.specs.Parts.{ObeysAll, CountsGood, LaysPackets};
 use acceptance::CommandAnswer;
@@ -199,6 +199,14 @@ fn good_replies(first: [Crate; 4], block: &[u16], kind: PassKind, items: &[u8]) 
     good
 }
 
+// What refuses a pass: its command, items that are not of 29 bytes each, or no room for the count.
+fn pass_refusal(command: u8, length: usize, room: usize) -> u8
+    ensures { λ r. ⌜ r ≡ passRefusal command length room ⌝ }
+{
+    let own = lower_of(command, left_over(length, 29, 6));
+    lower_of(own, no_room(1, room))
+}
+
 // On a fresh board: obeys the first command of the words, then serves the items, 29 bytes each, a crate's number and a reply of 28
 // bytes. How many replies were good. (On the crates alone.)
 #[no_mangle]
@@ -206,8 +214,7 @@ pub extern "C" fn ftm_pass(words: &[u16], items: &[u8], good: &mut [u64]) -> u8
     ensures { λ r. ⌜ CountsPass (now (words .entry)) (now (items .entry)) (now (good .entry)) r (now (good .exit)) ⌝ }
 {
     let done = obeyed(words, 1);
-    let own = lower_of(done.refusal, left_over(items.len(), 29, 6));
-    let refusal = lower_of(own, no_room(1, good.len()));
+    let refusal = pass_refusal(done.refusal, items.len(), good.len());
     if refusal != 0 {
         return refusal;
     }
@@ -220,10 +227,9 @@ pub extern "C" fn ftm_pass(words: &[u16], items: &[u8], good: &mut [u64]) -> u8
 }
 
 // How many replies of the items are good, each by a call on the whole board.
-fn good_on_board(first: Board, items: &[u8]) -> u64
-    ensures { λ r. ⌜ r ≡ goodOf (length (now (items .entry)) / 29) first (now (items .entry)) ⌝ }
+fn good_on_board(mut board: Board, items: &[u8]) -> u64
+    ensures { λ r. ⌜ r ≡ goodOf (length (now (items .entry)) / 29) board (now (items .entry)) ⌝ }
 {
-    let mut board = first;
     let mut good = 0;
     let n = items.len() / 29;
     let mut i = 0;
@@ -244,8 +250,7 @@ pub extern "C" fn ftm_replies(words: &[u16], items: &[u8], good: &mut [u64]) -> 
     ensures { λ r. ⌜ CountsPass (now (words .entry)) (now (items .entry)) (now (good .entry)) r (now (good .exit)) ⌝ }
 {
     let done = obeyed(words, 1);
-    let own = lower_of(done.refusal, left_over(items.len(), 29, 6));
-    let refusal = lower_of(own, no_room(1, good.len()));
+    let refusal = pass_refusal(done.refusal, items.len(), good.len());
     if refusal != 0 {
         return refusal;
     }
@@ -354,7 +359,12 @@ fn given_triggers(first: Board, count: usize, out: &mut [u8]) -> u64
 // On a fresh board: obeys two commands of the words, then gives `count` triggers of n = 4, or as many as are not refused, whose packets go
 // into the lent bytes one after another. How many were given.
 #[no_mangle]
-pub extern "C" fn ftm_triggers(words: &[u16], count: usize, packets: &mut [u8], number: &mut [u64]) -> u8
+pub extern "C" fn ftm_triggers(
+    words: &[u16],
+    count: usize,
+    packets: &mut [u8],
+    number: &mut [u64],
+) -> u8
     ensures { λ r. ⌜ GivesTriggers (now (words .entry)) count (now (packets .entry)) (now (number .entry)) r (now (packets .exit)) (now (number .exit)) ⌝ }
 {
     let done = obeyed(words, 2);

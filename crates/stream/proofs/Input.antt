@@ -1,7 +1,7 @@
 -- The listing of a whole input, of any length, is that of its front that is read (`front-listed`).
 -- Assumes nothing.
 use Prim.Native.Nat.{ℕ, _<_}
-use mathlib.Core.Path.{_≡_, refl, sym, ap, _∙_}
+use mathlib.Core.Path.{_≡_, refl, ap}
 use mathlib.Core.Bool.{Bool, true, false}
 use mathlib.Core.List.{List}
 use native.Mathlib.Omega.{arith}
@@ -9,7 +9,7 @@ use lib.Dec.{ltb}
 use lib.ListN.{length, take, replicate}
 use lib.Seq.{take-all, length-take-le}
 use borrow.Author.Tests.{ltb-true, ltb-false, lt-ltb}
-use Rattle.stream.specs.Stream.{padded, listed, inputBytes}
+use Rattle.stream.specs.Stream.{listed, inputBytes}
 
 -- the front shows that the input is longer than 65,536 bytes
 longer-shown : (input : List ℕ) → 65536 < length input → 65536 < length (take inputBytes input)

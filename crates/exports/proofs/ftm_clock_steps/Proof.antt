@@ -1,8 +1,8 @@
 -- `exports::ftm_clock_steps` meets its contract. Assumes nothing.
 use Prim.Native.Nat.{_+_, _-_, _≤_}
 use native.Mathlib.Omega.{arith}
-use mathlib.Core.Path.{_≡_, refl, sym, ap, ap₂, _∙_}
-use lib.ListN.{length, drop, length-set}
+use mathlib.Core.Path.{_≡_, refl, sym, ap₂, _∙_}
+use lib.ListN.{length, length-set}
 use Rattle.exports.specs.Exports.{lowerOf}
 use Rattle.exports.proofs.Refusing.{room-for, lower-none, gives-refused, gives}
 use Rattle.exports.proofs.Clock.{Made, none-made, one-more, all-made, steps-laid}

@@ -1,8 +1,6 @@
 -- `exports::ftm_pass` meets its contract. Assumes nothing.
-use mathlib.Core.Path.{ap₂, _∙_}
-use Rattle.exports.specs.Exports.{lowerOf}
 use Rattle.exports.proofs.Refusing.{room-one, gives-refused, gives-count}
-use Rattle.exports.proofs.Replies.{pass-on-crates}
+use Rattle.exports.proofs.Replies.{pass-on-crates, pass-refused}
 use borrow.Author.Needs.{needs}
 use Rattle.exports.proofs.ftm_pass.Statement.{statement}
 use Rattle.exports.proofs.ftm_pass.Tie as tie
@@ -10,28 +8,14 @@ use Rattle.exports.proofs.ftm_pass.Tie as tie
 obeyed-requires : tie.Need-obeyed-requires
 obeyed-requires c κs = search needs
 
-left-over-requires : tie.Need-left-over-requires
-left-over-requires c κs = search needs
-
-lower-of-requires : tie.Need-lower-of-requires
-lower-of-requires c κs = search needs
-
-no-room-requires : tie.Need-no-room-requires
-no-room-requires c κs = search needs
-
-lower-of-requires-2 : tie.Need-lower-of-requires-2
-lower-of-requires-2 c κs = search needs
+pass-refusal-requires : tie.Need-pass-refusal-requires
+pass-refusal-requires c κs = search needs
 
 returns : tie.Need-returns
 returns c =
-    let at-lower = c .before in
-    let at-room = at-lower .before in
-    let at-own = at-room .before in
-    let at-left = at-own .before in
-    let at-obeyed = at-left .before in
-    let refusal =
-    at-lower .lower-of2 .ensures
-    ∙ ap₂ lowerOf (at-own .lower-of .ensures ∙ ap₂ lowerOf (at-obeyed .obeyed .ensures .refusal) (at-left .left-over .ensures)) (at-room .no-room .ensures) in
+    let at-refusal = c .before in
+    let at-obeyed = at-refusal .before in
+    let refusal = pass-refused _ (at-obeyed .obeyed .result) (at-obeyed .obeyed .ensures) _ _ _ (at-refusal .pass-refusal .ensures) in
     gives-refused _ _ _ _ refusal (c .if1 .taken)
 
 slice-aggregate-good-replies : tie.Need-slice-aggregate-good-replies
@@ -43,14 +27,9 @@ good-replies-requires c κs = search needs
 slice-write-good : tie.Need-slice-write-good
 slice-write-good c =
     let at-if = c .before .before .before .before .before in
-    let at-lower = at-if .before in
-    let at-room = at-lower .before in
-    let at-own = at-room .before in
-    let at-left = at-own .before in
-    let at-obeyed = at-left .before in
-    let refusal =
-    at-lower .lower-of2 .ensures
-    ∙ ap₂ lowerOf (at-own .lower-of .ensures ∙ ap₂ lowerOf (at-obeyed .obeyed .ensures .refusal) (at-left .left-over .ensures)) (at-room .no-room .ensures) in
+    let at-refusal = at-if .before in
+    let at-obeyed = at-refusal .before in
+    let refusal = pass-refused _ (at-obeyed .obeyed .result) (at-obeyed .obeyed .ensures) _ _ _ (at-refusal .pass-refusal .ensures) in
     let h = room-one _ _ _ refusal (at-if .if1 .left) in
     search needs
 
@@ -60,14 +39,9 @@ same-length c = search needs
 returns-2 : tie.Need-returns-2
 returns-2 c =
     let at-if = c .before .before .before .before .before in
-    let at-lower = at-if .before in
-    let at-room = at-lower .before in
-    let at-own = at-room .before in
-    let at-left = at-own .before in
-    let at-obeyed = at-left .before in
-    let refusal =
-    at-lower .lower-of2 .ensures
-    ∙ ap₂ lowerOf (at-own .lower-of .ensures ∙ ap₂ lowerOf (at-obeyed .obeyed .ensures .refusal) (at-left .left-over .ensures)) (at-room .no-room .ensures) in
+    let at-refusal = at-if .before in
+    let at-obeyed = at-refusal .before in
+    let refusal = pass-refused _ (at-obeyed .obeyed .result) (at-obeyed .obeyed .ensures) _ _ _ (at-refusal .pass-refusal .ensures) in
     let good = pass-on-crates _ (at-obeyed .obeyed .result) (at-obeyed .obeyed .ensures) _ _ (c .good-replies .ensures) in
     gives-count _ _ _ _ refusal (at-if .if1 .left) _ good
 
@@ -76,10 +50,7 @@ ftm-pass-spec =
     tie.close
     (tie.spec
     obeyed-requires
-    left-over-requires
-    lower-of-requires
-    no-room-requires
-    lower-of-requires-2
+    pass-refusal-requires
     returns
     slice-aggregate-good-replies
     good-replies-requires

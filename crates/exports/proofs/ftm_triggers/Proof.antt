@@ -1,5 +1,5 @@
 -- `exports::ftm_triggers` meets its contract. Assumes nothing.
-use mathlib.Core.Path.{_≡_, sym, ap, ap₂, _∙_}
+use mathlib.Core.Path.{sym, ap₂, _∙_}
 use Rattle.exports.specs.Exports.{lowerOf, triggersRefusal}
 use Rattle.exports.proofs.Refusing.{room-for, room-one, room-packets, lower-none, gives-refused, gives, gives-count}
 use Rattle.exports.proofs.Triggers.{laid-on}

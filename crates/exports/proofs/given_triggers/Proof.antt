@@ -1,9 +1,7 @@
 -- `exports::given_triggers` meets its contract. Assumes nothing.
 use denote.Ref.{now}
 use Prim.Native.Nat.{_-_, _≤_}
-use mathlib.Core.Path.{refl, ap}
-use Rattle.board.specs.declared.Board.{Board}
-use Rattle.exports.specs.Exports.{afterTwo}
+use mathlib.Core.Path.{refl}
 use Rattle.exports.proofs.Triggers.{TriggersSoFar, none-given, at-end, one-given, one-refused}
 use borrow.Author.Needs.{needs}
 use native.Mathlib.Omega.{arith}
@@ -71,7 +69,10 @@ same-length-2 : tie.Need-same-length-2 Inv-loop μ-loop
 same-length-2 c = search needs
 
 returns-2 : tie.Need-returns-2 Inv-loop μ-loop
-returns-2 c = at-end _ _ _ (now (c .before .before .before .args .out)) _ _ (c .before .loop .inv .1) (c .before .before .before .pre) (omega arith) (omega arith)
+returns-2 c =
+    let loop = c .before .loop in
+    let start = c .before .before .before in
+    at-end _ _ _ (now (start .args .out)) _ _ (loop .inv .1) (start .pre) (omega arith) (omega arith)
 
 pub given-triggers-spec : {M : Type 1} → statement M
 given-triggers-spec =

@@ -10,11 +10,11 @@ use Rattle.exports.proofs.good_on_board.Statement.{statement}
 use Rattle.exports.proofs.good_on_board.Tie as tie
 
 abbrev Inv-loop : tie.InvT-loop
-Inv-loop items board₀ good₀ n i₀ board good i =
+Inv-loop board₀ items good₀ n i₀ board good i =
     (i ≤ n) × (good ≤ i) × (good + goodOf (n - i) board (drop (29 * i) items) ≡ goodOf n board₀ items)
 
 abbrev μ-loop : tie.MeasureT-loop
-μ-loop items board₀ good₀ n i₀ board good i = n - i
+μ-loop board₀ items good₀ n i₀ board good i = n - i
 
 loop-holds : tie.Need-loop-holds Inv-loop μ-loop
 loop-holds c = (omega arith, omega arith, reply-start _ _ _)

@@ -1,7 +1,5 @@
 -- `exports::lower_of` meets its contract. Assumes nothing.
-use native.Mathlib.Omega.{arith}
 use Rattle.exports.proofs.Refusing.{lower-second, lower-first, lower-below, lower-above}
-use borrow.Author.Needs.{needs}
 use Rattle.exports.proofs.lower_of.Statement.{statement}
 use Rattle.exports.proofs.lower_of.Tie as tie
 

@@ -1,7 +1,6 @@
 -- `exports::no_room` meets its contract. Assumes nothing.
 use borrow.Author.Tests.{lt-ltb, le-ltb}
 use Rattle.exports.specs.Exports.{noRoom}
-use borrow.Author.Needs.{needs}
 use Rattle.exports.proofs.no_room.Statement.{statement}
 use Rattle.exports.proofs.no_room.Tie as tie
 
