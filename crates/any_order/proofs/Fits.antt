@@ -21,7 +21,8 @@ next-code three h = absurd (omega arith)
 next-code four h = absurd (omega arith)
 
 -- at the next board
-fit-advanced : (kind : PassKind) (w : ℕ) (k : Crate) → k .board < 10 → length (k .failed) ≡ 10 → NoneFrom (k .board + 1) (k .failed) → Fit kind (advanced kind w k)
+fit-advanced : (kind : PassKind) (w : ℕ) (k : Crate) → k .board < 10 → length (k .failed) ≡ 10 → NoneFrom (k .board + 1) (k .failed)
+    → Fit kind (advanced kind w k)
 unfolding advanced placed
 fit-advanced kind w k b ten clear =
     let least : k .board + 1 ≤ nextBoard kind w (k .board + 1) = next-least kind w (k .board + 1) (omega arith) in

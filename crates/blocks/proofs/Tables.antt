@@ -13,7 +13,8 @@ use Rattle.blocks.specs.Blocks.{headerWords, staticRules, dynamicBody, m
 use Rattle.blocks.specs.declared.Header.{Header}
 
 -- the header of a block of n words: 19, 20
-pub header-exactly : (h : Header) (n : ℕ) (out : List ℕ) → Exactly (headerRules h n out) (length (headerWords h)) (writingBy (headerRules h n out) (headerWords h))
+pub header-exactly : (h : Header) (n : ℕ) (out : List ℕ)
+    → Exactly (headerRules h n out) (length (headerWords h)) (writingBy (headerRules h n out) (headerWords h))
 header-exactly h n out = writing-exactly (headerRules h n out) (headerWords h) out tt
 
 -- a block with these rows of its own

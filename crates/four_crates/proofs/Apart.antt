@@ -1,13 +1,15 @@
--- Two different answers on the outstanding frame, and on the number of frames sent, are never read as the same.
+-- Two different answers on the outstanding frame, on the number of frames sent, and on a failure record are never read as the same.
 -- Assumes nothing.
 use mathlib.Core.Path.{_≡_, refl, ap}
 use Rattle.refusals.proofs.Apart.{TellsApart, valueOf, refusal-back, tells-apart}
 use Prim.Native.Nat.{ℕ}
-use Rattle.four_crates.specs.FourCrates.{outstandingOnPaper, sentOnPaper}
+use Rattle.four_crates.specs.FourCrates.{outstandingOnPaper, sentOnPaper, recordOnPaper}
 use Rattle.four_crates.specs.declared.Outstanding.{Outstanding}
 use Rattle.four_crates.specs.declared.Outstanding.the-variants.{Step}
 use Rattle.four_crates.specs.declared.FramesSent.{FramesSent}
 use Rattle.four_crates.specs.declared.FramesSent.the-variants.{Number}
+use Rattle.four_crates.specs.declared.RecordFound.{RecordFound}
+use Rattle.four_crates.specs.declared.RecordFound.the-variants.{Record}
 
 -- the answer that names a board and a code
 step : ℕ × ℕ → Outstanding
@@ -27,3 +29,10 @@ sent-apart = tells-apart sentOnPaper Number FramesSent.Refused go
     go : (x : FramesSent) → valueOf Number FramesSent.Refused (sentOnPaper x) ≡ x
     go (Number n) = refl
     go (FramesSent.Refused r) = ap FramesSent.Refused (refusal-back r)
+
+pub record-apart : TellsApart recordOnPaper
+record-apart = tells-apart recordOnPaper Record RecordFound.Refused go
+  where
+    go : (x : RecordFound) → valueOf Record RecordFound.Refused (recordOnPaper x) ≡ x
+    go (Record f) = refl
+    go (RecordFound.Refused r) = ap RecordFound.Refused (refusal-back r)

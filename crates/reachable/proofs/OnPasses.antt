@@ -181,7 +181,8 @@ holds-crate β c k h d r sound s =
         active = q .active;
         four = length-set (β .crates) c k ∙ q .four;
         number = λ n m.
-            at-set (β .crates) c k l (λ i j. j .sent ≤ mostFrames (β .kind) (wordOf (β .block) i)) (runs-number (β .kind) (wordOf (β .block) c) k r) n (q .number n m);
+            at-set (β .crates) c k l (λ i j. j .sent ≤ mostFrames (β .kind) (wordOf (β .block) i))
+            (runs-number (β .kind) (wordOf (β .block) c) k r) n (q .number n m);
         crates = λ n m. at-set (β .crates) c k l (λ i j. SoundCrate (β .kind) j) sound n (q .crates n m);
         apart = rw (pass-apart (isRunning (β .run)) (β .crates) c h d (q .apart));
       };

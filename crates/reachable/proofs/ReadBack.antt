@@ -34,7 +34,8 @@ use Rattle.reachable.specs.Reachable.{Reachable}
 module _ (β : Board) (h : Reachable β) where
   -- the numbers of its header fit their words
   as-held : {kind : Kind} {w b : List ℕ} → ReadsBack kind w (asSent (headerOf β)) b → ReadsBack kind w (headerOf β) b
-  as-held {kind} {w} {b} r = subst (λ (k : Header). ReadsBack kind w k b) (sent-whole (headerOf β) (let k = h .run .counter in omega arith) (h .run .timestamp)) r
+  as-held {kind} {w} {b} r =
+      subst (λ (k : Header). ReadsBack kind w k b) (sent-whole (headerOf β) (let k = h .run .counter in omega arith) (h .run .timestamp)) r
 
   -- ---- blocks: n words were written, from the front of what was lent
 
