@@ -10,8 +10,7 @@ use lib.ListN.{length, drop, getD, set, replicate, length-set, drop-of-length-le
 use lib.Seq.{drop-cons}
 use Rattle.numbers.specs.Numbers.{digits}
 use Rattle.configuration.specs.Configuration.{addressOf}
-use Rattle.ftu_list.specs.List.{entryWords, answered, listHead, listBody}
-use Rattle.ftu_list.specs.List as ftu-list
+use Rattle.ftu_list.specs.List.{entryWords, entryWordsFrom, answered, listHead, listBody}
 use Rattle.ftu_list.specs.declared.Entry.{Entry}
 use Rattle.ftu_list.specs.declared.FtuList.{FtuList}
 use Rattle.steps.specs.declared.Heard.{Heard}
@@ -75,19 +74,19 @@ six-words c j e h l = go (eqb (e .calls) 0)
     go true = refl
     go false = ap (λ (n : ℕ). (n + 256 * e .calls) ∷ rest) (address-is c j h l)
 
-crate-words : (c j : ℕ) (es : List Entry) → c < 4 → j + length es ≤ 10 → ftu-list.entriesFrom (10 * c + j) es ≡ wordsFrom c j (map foundIn es)
+crate-words : (c j : ℕ) (es : List Entry) → c < 4 → j + length es ≤ 10 → entryWordsFrom (10 * c + j) es ≡ wordsFrom c j (map foundIn es)
 crate-words c j [] h l = refl
 crate-words c j (e ∷ es) h l =
     ap₂ _++_ (six-words c j e h (omega arith))
-    (ap (λ (k : ℕ). ftu-list.entriesFrom k es) (let q : suc (10 * c + j) ≡ 10 * c + suc j = omega arith in q) ∙ crate-words c (suc j) es h (omega arith))
+    (ap (λ (k : ℕ). entryWordsFrom k es) (let q : suc (10 * c + j) ≡ 10 * c + suc j = omega arith in q) ∙ crate-words c (suc j) es h (omega arith))
 
-words-append : (k : ℕ) (xs ys : List Entry) → ftu-list.entriesFrom k (xs ++ ys) ≡ ftu-list.entriesFrom k xs ++ ftu-list.entriesFrom (k + length xs) ys
-words-append k [] ys = ap (λ (i : ℕ). ftu-list.entriesFrom i ys) (let q : k ≡ k + 0 = omega arith in q)
+words-append : (k : ℕ) (xs ys : List Entry) → entryWordsFrom k (xs ++ ys) ≡ entryWordsFrom k xs ++ entryWordsFrom (k + length xs) ys
+words-append k [] ys = ap (λ (i : ℕ). entryWordsFrom i ys) (let q : k ≡ k + 0 = omega arith in q)
 words-append k (x ∷ xs) ys =
     ap (λ (ws : List ℕ). entryWords k x ++ ws)
     (words-append (suc k) xs ys
-    ∙ ap (λ (i : ℕ). ftu-list.entriesFrom (suc k) xs ++ ftu-list.entriesFrom i ys) (let q : suc k + length xs ≡ k + suc (length xs) = omega arith in q))
-    ∙ sym (append-assoc (entryWords k x) (ftu-list.entriesFrom (suc k) xs) (ftu-list.entriesFrom (k + suc (length xs)) ys))
+    ∙ ap (λ (i : ℕ). entryWordsFrom (suc k) xs ++ entryWordsFrom i ys) (let q : suc k + length xs ≡ k + suc (length xs) = omega arith in q))
+    ∙ sym (append-assoc (entryWords k x) (entryWordsFrom (suc k) xs) (entryWordsFrom (k + suc (length xs)) ys))
 
 -- ---- a pass keeps ten boards
 
@@ -142,19 +141,19 @@ module _ (cs : List Crate) (ten : (c : ℕ) → c < 4 → length (entriesIn (cra
   abbrev boards : ℕ → List Found
   boards c = map foundIn (own c)
 
-  own-words : (c : ℕ) → c < 4 → ftu-list.entriesFrom (10 * c) (own c) ≡ wordsFrom c 0 (boards c)
+  own-words : (c : ℕ) → c < 4 → entryWordsFrom (10 * c) (own c) ≡ wordsFrom c 0 (boards c)
   own-words c h =
-      ap (λ (k : ℕ). ftu-list.entriesFrom k (own c)) (let q : 10 * c ≡ 10 * c + 0 = omega arith in q)
+      ap (λ (k : ℕ). entryWordsFrom k (own c)) (let q : 10 * c ≡ 10 * c + 0 = omega arith in q)
       ∙ crate-words c 0 (own c) h (let q = ten c h in omega arith)
 
   -- the words of the boards from crate c on, where those after it are `later`
   words-on : (c : ℕ) (later : List Entry) → c < 4
-      → ftu-list.entriesFrom (10 * c) (own c ++ later) ≡ wordsFrom c 0 (boards c) ++ ftu-list.entriesFrom (10 * c + 10) later
+      → entryWordsFrom (10 * c) (own c ++ later) ≡ wordsFrom c 0 (boards c) ++ entryWordsFrom (10 * c + 10) later
   words-on c later h =
       words-append (10 * c) (own c) later
-      ∙ ap₂ (λ (ws : List ℕ) (n : ℕ). ws ++ ftu-list.entriesFrom (10 * c + n) later) (own-words c h) (ten c h)
+      ∙ ap₂ (λ (ws : List ℕ) (n : ℕ). ws ++ entryWordsFrom (10 * c + n) later) (own-words c h) (ten c h)
 
-  words-are : ftu-list.entriesFrom 0 (ofFour own) ≡ ofFour (λ c. wordsFrom c 0 (boards c))
+  words-are : entryWordsFrom 0 (ofFour own) ≡ ofFour (λ c. wordsFrom c 0 (boards c))
   words-are =
       words-on 0 (own 1 ++ (own 2 ++ own 3)) (omega arith)
       ∙ ap (λ (ws : List ℕ). wordsFrom 0 0 (boards 0) ++ ws)
@@ -205,4 +204,4 @@ module _ (cs : List Crate) (ten : (c : ℕ) → c < 4 → length (entriesIn (cra
     pub list-body : listBody listWith
         ≡ (count 0 + count 1 + count 2 + count 3) ∷ count 0 ∷ count 1 ∷ count 2 ∷ count 3
         ∷ ((w₀ ∷ w₁ ∷ w₂ ∷ w₃ ∷ []) ++ ofFour (λ c. wordsFrom c 0 (boards c)))
-    list-body = ap₂ _++_ head-is (ap (ftu-list.entriesFrom 0) entries-are ∙ words-are)
+    list-body = ap₂ _++_ head-is (ap (entryWordsFrom 0) entries-are ∙ words-are)

@@ -10,7 +10,7 @@ use lib.Dec.{ltb}
 use borrow.Author.Tests.{ltb-true, ltb-false, lt-ltb, le-ltb, le-leb, lt-leb}
 use Rattle.refusals.specs.Tables.{Answer, given}
 use Rattle.steps.specs.declared.Heard.{Heard}
-use Rattle.crate_pass.specs.Crate.{nextBoard, firstCode, entriesFrom, entriesIn, isDone, begunCrate}
+use Rattle.crate_pass.specs.Crate.{nextBoard, firstCode, asEntries, entriesIn, isDone, begunCrate}
 use Rattle.crate_pass.specs.Crate.{placed, advanced, stepped, noted, marked, Moved, told, passed, missed, moved, crateAnswer, crateAfter}
 use Rattle.crate_pass.specs.declared.PassKind.{PassKind}
 use Rattle.crate_pass.specs.declared.PassKind.the-variants.{Reprogramming, Ping}
@@ -54,7 +54,7 @@ nonzero four q = omega arith
 -- ---- a crate as the pass begins
 
 boards-begun : (kind : PassKind) (w : ℕ) (k : Crate) → boardsOf kind (entriesIn (begunCrate kind w k)) ≡ replicate 10 nothing
-unfolding begunCrate entriesFrom
+unfolding begunCrate asEntries
 boards-begun Reprogramming w k = refl
 boards-begun Ping w k = refl
 

@@ -11,7 +11,7 @@ use Rattle.steps.specs.declared.Heard.{Heard}
 use Rattle.crate_pass.specs.declared.PassKind.{PassKind}
 use Rattle.crate_pass.specs.declared.PassKind.the-variants.{Reprogramming, Ping}
 use Rattle.crate_pass.specs.declared.Crate.{Crate}
-use Rattle.crate_pass.specs.Crate.{silent, entriesFrom, entriesIn, begunCrate, placed, advanced, notedIn, noted, marked, crateAfter}
+use Rattle.crate_pass.specs.Crate.{silent, asEntries, entriesIn, begunCrate, placed, advanced, notedIn, noted, marked, crateAfter}
 use Rattle.crate_pass.proofs.After.{after-any}
 
 abbrev pub entry : ℕ → ℕ → ℕ → Entry
@@ -19,8 +19,8 @@ entry d n e = record { dna = d; calls = n; «crc_errors» = e }
 
 -- the entry of board i has its three numbers
 pub entry-at : (dna calls errors : List ℕ) (i : ℕ) → i < length dna → i < length calls → i < length errors
-    → entry (getD dna i 0) (getD calls i 0) (getD errors i 0) ≡ getD (entriesFrom dna calls errors) i silent
-unfolding entriesFrom
+    → entry (getD dna i 0) (getD calls i 0) (getD errors i 0) ≡ getD (asEntries dna calls errors) i silent
+unfolding asEntries
 entry-at [] calls errors i a b c = absurd (let z : ⊥ = omega arith in z)
 entry-at (d ∷ dna) [] errors i a b c = absurd (let z : ⊥ = omega arith in z)
 entry-at (d ∷ dna) (n ∷ calls) [] i a b c = absurd (let z : ⊥ = omega arith in z)
@@ -29,8 +29,8 @@ entry-at (d ∷ dna) (n ∷ calls) (e ∷ errors) (suc i) a b c = entry-at dna c
 
 -- three numbers stored at i are an entry stored there
 pub entries-set : (dna calls errors : List ℕ) (i d n e : ℕ)
-    → entriesFrom (set dna i d) (set calls i n) (set errors i e) ≡ set (entriesFrom dna calls errors) i (entry d n e)
-unfolding entriesFrom
+    → asEntries (set dna i d) (set calls i n) (set errors i e) ≡ set (asEntries dna calls errors) i (entry d n e)
+unfolding asEntries
 entries-set [] calls errors i d n e = refl
 entries-set (x ∷ dna) [] errors zero d n e = refl
 entries-set (x ∷ dna) [] errors (suc i) d n e = refl
@@ -41,7 +41,7 @@ entries-set (x ∷ dna) (y ∷ calls) (z ∷ errors) (suc i) d n e = ap (λ l. e
 
 -- "A ping clears the list as it begins; no other command changes it"
 pub entries-cleared : (w : ℕ) (k : Crate) → entriesIn (begunCrate Ping w k) ≡ replicate 10 silent
-unfolding begunCrate entriesFrom
+unfolding begunCrate asEntries
 entries-cleared w k = refl
 
 pub entries-kept : (w : ℕ) (k : Crate) → entriesIn (begunCrate Reprogramming w k) ≡ entriesIn k

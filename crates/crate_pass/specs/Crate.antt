@@ -39,14 +39,14 @@ firstCode Ping = 4
 -- ---- power-up, and the begin of a pass
 
 -- what the crate keeps of each board, as entries of the FTU list: a board's DNA, calls and CRC errors stand at its number
-unfoldable pub entriesFrom : List ℕ → List ℕ → List ℕ → List Entry
-entriesFrom [] calls errors = []
-entriesFrom (d ∷ dna) [] errors = []
-entriesFrom (d ∷ dna) (n ∷ calls) [] = []
-entriesFrom (d ∷ dna) (n ∷ calls) (e ∷ errors) = record { dna = d; calls = n; «crc_errors» = e } ∷ entriesFrom dna calls errors
+unfoldable pub asEntries : List ℕ → List ℕ → List ℕ → List Entry
+asEntries [] calls errors = []
+asEntries (d ∷ dna) [] errors = []
+asEntries (d ∷ dna) (n ∷ calls) [] = []
+asEntries (d ∷ dna) (n ∷ calls) (e ∷ errors) = record { dna = d; calls = n; «crc_errors» = e } ∷ asEntries dna calls errors
 
 abbrev pub entriesIn : Crate → List Entry
-entriesIn k = entriesFrom (k .dna) (k .calls) (k .«crc_errors»)
+entriesIn k = asEntries (k .dna) (k .calls) (k .«crc_errors»)
 
 -- a board that did not answer: "six zeros" in the list
 abbrev pub silent : Entry

@@ -12,7 +12,7 @@ use lib.ListN.{length, take, drop, getD, replicate, length-append, length-map}
 use lib.Seq.{take-suc, drop-cons, length-take-le}
 use Rattle.numbers.specs.Numbers.{digits}
 use Rattle.configuration.specs.Configuration.{addressOf}
-use Rattle.ftu_list.specs.List.{entryWords, entriesFrom, answered, listHead, listBody}
+use Rattle.ftu_list.specs.List.{entryWords, entryWordsFrom, answered, listHead, listBody}
 use Rattle.ftu_list.specs.declared.Entry.{Entry}
 use Rattle.ftu_list.specs.declared.FtuList.{FtuList}
 
@@ -28,24 +28,24 @@ length-entry k e = go (eqb (e .calls) 0)
     go true = refl
     go false = refl
 
-pub length-entries : (k : ℕ) (es : List Entry) → length (entriesFrom k es) ≡ 6 * length es
+pub length-entries : (k : ℕ) (es : List Entry) → length (entryWordsFrom k es) ≡ 6 * length es
 length-entries k [] = refl
 length-entries k (e ∷ es) =
-    length-append (entryWords k e) (entriesFrom (suc k) es) ∙ (let a = length-entry k e in let b = length-entries (suc k) es in omega arith)
+    length-append (entryWords k e) (entryWordsFrom (suc k) es) ∙ (let a = length-entry k e in let b = length-entries (suc k) es in omega arith)
 
-entries-snoc : (k : ℕ) (es : List Entry) (e : Entry) → entriesFrom k (es ++ (e ∷ [])) ≡ entriesFrom k es ++ entryWords (k + length es) e
+entries-snoc : (k : ℕ) (es : List Entry) (e : Entry) → entryWordsFrom k (es ++ (e ∷ [])) ≡ entryWordsFrom k es ++ entryWords (k + length es) e
 entries-snoc k [] e = append-nil (entryWords k e) ∙ ap (λ (n : ℕ). entryWords n e) (sym (add-zero k))
 entries-snoc k (d ∷ es) e =
     ap (λ (l : List ℕ). entryWords k d ++ l) (entries-snoc (suc k) es e)
-    ∙ sym (append-assoc (entryWords k d) (entriesFrom (suc k) es) (entryWords (suc k + length es) e))
-    ∙ ap (λ (n : ℕ). (entryWords k d ++ entriesFrom (suc k) es) ++ entryWords n e) (let q : suc k + length es ≡ k + suc (length es) = omega arith in q)
+    ∙ sym (append-assoc (entryWords k d) (entryWordsFrom (suc k) es) (entryWords (suc k + length es) e))
+    ∙ ap (λ (n : ℕ). (entryWords k d ++ entryWordsFrom (suc k) es) ++ entryWords n e) (let q : suc k + length es ≡ k + suc (length es) = omega arith in q)
 
 -- one board more
-pub entries-more : (es : List Entry) (k : ℕ) → k < length es → entriesFrom 0 (take (suc k) es) ≡ entriesFrom 0 (take k es) ++ entryWords k (getD es k silent)
+pub entries-more : (es : List Entry) (k : ℕ) → k < length es → entryWordsFrom 0 (take (suc k) es) ≡ entryWordsFrom 0 (take k es) ++ entryWords k (getD es k silent)
 entries-more es k h =
-    ap (entriesFrom 0) (take-suc es k silent h)
+    ap (entryWordsFrom 0) (take-suc es k silent h)
     ∙ entries-snoc 0 (take k es) (getD es k silent)
-    ∙ ap (λ (n : ℕ). entriesFrom 0 (take k es) ++ entryWords n (getD es k silent)) (let l = length-take-le k es (le-of-lt h) in let q : 0 + length (take k es) ≡ k = omega arith in q)
+    ∙ ap (λ (n : ℕ). entryWordsFrom 0 (take k es) ++ entryWords n (getD es k silent)) (let l = length-take-le k es (le-of-lt h) in let q : 0 + length (take k es) ≡ k = omega arith in q)
 
 -- how many of the boards from k up to `to` answered: board k, and those after it
 pub answered-on : (es : List Entry) (k to : ℕ) → k < to → to ≤ length es
@@ -65,4 +65,4 @@ unfolding listHead
 length-head l = refl
 
 pub length-body : (l : FtuList) → length (l .entries) ≡ 40 → length (listBody l) ≡ 249
-length-body l n = length-append (listHead l) (entriesFrom 0 (l .entries)) ∙ (let a = length-head l in let b = length-entries 0 (l .entries) in omega arith)
+length-body l n = length-append (listHead l) (entryWordsFrom 0 (l .entries)) ∙ (let a = length-head l in let b = length-entries 0 (l .entries) in omega arith)

@@ -18,9 +18,9 @@ entryWords k e =
     ((addressOf (k / 10) (k % 10) + 256 * e .calls) ∷ digits 65536 4 (e .dna) ++ (e .«crc_errors» ∷ []))
 
 -- the words of a list of boards, the first of which is board k
-abbrev pub entriesFrom : ℕ → List Entry → List ℕ
-entriesFrom k [] = []
-entriesFrom k (e ∷ es) = entryWords k e ++ entriesFrom (suc k) es
+abbrev pub entryWordsFrom : ℕ → List Entry → List ℕ
+entryWordsFrom k [] = []
+entryWordsFrom k (e ∷ es) = entryWords k e ++ entryWordsFrom (suc k) es
 
 -- how many of a list of boards answered
 abbrev pub answered : List Entry → ℕ
@@ -28,17 +28,17 @@ answered [] = 0
 answered (e ∷ es) = cond (eqb (e .calls) 0) 0 1 + answered es
 
 -- the ten boards of crate c
-abbrev pub crateOf : ℕ → List Entry → List Entry
-crateOf c es = take 10 (drop (10 * c) es)
+abbrev pub ofCrate : ℕ → List Entry → List Entry
+ofCrate c es = take 10 (drop (10 * c) es)
 
 -- "boards that answered; the same for each crate; the four active words as stored when the ping began"
 unfoldable pub listHead : FtuList → List ℕ
 listHead l =
     answered (take 40 (l .entries))
-    ∷ answered (crateOf 0 (l .entries))
-    ∷ answered (crateOf 1 (l .entries))
-    ∷ answered (crateOf 2 (l .entries))
-    ∷ answered (crateOf 3 (l .entries))
+    ∷ answered (ofCrate 0 (l .entries))
+    ∷ answered (ofCrate 1 (l .entries))
+    ∷ answered (ofCrate 2 (l .entries))
+    ∷ answered (ofCrate 3 (l .entries))
     ∷ getD (l .active) 0 0
     ∷ getD (l .active) 1 0
     ∷ getD (l .active) 2 0
@@ -47,4 +47,4 @@ listHead l =
 
 -- the 249 words
 abbrev pub listBody : FtuList → List ℕ
-listBody l = listHead l ++ entriesFrom 0 (l .entries)
+listBody l = listHead l ++ entryWordsFrom 0 (l .entries)

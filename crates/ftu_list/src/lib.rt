@@ -4,7 +4,7 @@ ghost use mathlib.Core.List.{[], _++_};
 ghost use Prim.Native.Nat.{_-_, _<_, _≤_};
 ghost use lib.ListN.{length, take, drop};
 ghost use Rattle.blocks.specs.Blocks.{WroteBlock};
-ghost use Rattle.ftu_list.specs.List.{entryWords, entriesFrom, answered, listHead, listBody};
+ghost use Rattle.ftu_list.specs.List.{entryWords, entryWordsFrom, answered, listHead, listBody};
 use blocks::Header;
 use blocks::put_header;
 use configuration::address_of;
@@ -86,7 +86,7 @@ fn list_head(list: FtuList) -> [u16; 9]
 // Puts the boards' words, six each, to the front of lent words.
 fn put_entries(entries: [Entry; 40], body: &mut [u16])
     requires { ⌜ 240 ≤ length (now body) ⌝ }
-    ensures { λ _. ⌜ now (body .exit) ≡ entriesFrom 0 entries ++ drop 240 (now (body .entry)) ⌝ }
+    ensures { λ _. ⌜ now (body .exit) ≡ entryWordsFrom 0 entries ++ drop 240 (now (body .entry)) ⌝ }
 {
     let mut k = 0;
     while k < 40 {

@@ -17,7 +17,7 @@ use Rattle.commands.specs.declared.Command.the-variants.{Read, Write, Start, St
 use Rattle.blocks.specs.Blocks.{headerWords}
 use Rattle.ftu_list.specs.List.{entryWords, listHead, listBody}
 use Rattle.ftu_list.specs.declared.Entry.{Entry}
-use Rattle.crate_pass.specs.Crate.{entriesFrom, entriesIn, isDone, begunCrate}
+use Rattle.crate_pass.specs.Crate.{asEntries, entriesIn, isDone, begunCrate}
 use Rattle.crate_pass.specs.Sound.{IsCode}
 use Rattle.crate_pass.specs.declared.PassKind.the-variants.{Reprogramming}
 use Rattle.crate_pass.specs.declared.Crate.{Crate}
@@ -44,13 +44,13 @@ use Rattle.reachable.proofs.States.{holds-kept, holds-all}
 -- ---- power-up, and the begin of a ping
 
 pub zeros-at-power-up : (id firmware : ℕ) → listBody (listOf (freshBoard id firmware)) ≡ listAtPowerUp
-unfolding freshBoard entriesOf entriesFrom listHead entryWords
+unfolding freshBoard entriesOf asEntries listHead entryWords
 zeros-at-power-up id firmware = refl
 
 -- five counts, the four active words, and six words for each board
 pub list-cleared : (β : Board) (w : List ℕ) → boardAnswer β w ≡ given Ping
     → listBody (listOf (boardAfter β w)) ≡ replicate 5 0 ++ activeWords (β .block) ++ replicate 240 0
-unfolding pinged begunAll begunCrate entriesOf entriesFrom listHead entryWords
+unfolding pinged begunAll begunCrate entriesOf asEntries listHead entryWords
 list-cleared β w e = ap (λ (a : Answer Command). listBody (listOf (afterCommand β (blockOf w) a))) e
 
 -- ---- one call leaves the list as it was, and no ping under way

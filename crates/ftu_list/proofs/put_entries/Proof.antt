@@ -9,7 +9,7 @@ use native.Mathlib.Numerals.{add-one}
 use lib.ListN.{length, take, drop, getD}
 use Rattle.words.specs.Words.{copied}
 use denote.Ref.{now}
-use Rattle.ftu_list.specs.List.{entryWords, entriesFrom}
+use Rattle.ftu_list.specs.List.{entryWords, entryWordsFrom}
 use Rattle.ftu_list.proofs.Laws.{silent, length-entry, length-entries, entries-more}
 use borrow.Author.Needs.{needs}
 use native.Mathlib.Omega.{arith}
@@ -17,7 +17,7 @@ use Rattle.ftu_list.proofs.put_entries.Statement.{statement}
 use Rattle.ftu_list.proofs.put_entries.Tie as tie
 
 abbrev Inv-loop : tie.InvT-loop
-Inv-loop body₀ entries k₀ body k = (k ≤ 40) × (body ≡ entriesFrom 0 (take k entries) ++ drop (6 * k) body₀) × (length body ≡ length body₀)
+Inv-loop body₀ entries k₀ body k = (k ≤ 40) × (body ≡ entryWordsFrom 0 (take k entries) ++ drop (6 * k) body₀) × (length body ≡ length body₀)
 
 abbrev μ-loop : tie.MeasureT-loop
 μ-loop body₀ entries k₀ body k = 40 - k
@@ -66,15 +66,15 @@ loop-again c =
     let a = c .before .before .before .before .before .before .before .before .before .before .args in
     let l = c .before .before .before .before .before .before .before .before .loop in
     let n : length (a .t1) ≡ 40 = search needs in
-    let front = entriesFrom 0 (take (l .k) (a .t1)) in
+    let front = entryWordsFrom 0 (take (l .k) (a .t1)) in
     let hn : length front ≡ 6 * l .k = length-entries 0 (take (l .k) (a .t1)) ∙ ap (λ (m : ℕ). 6 * m) (length-take-le (l .k) (a .t1) (omega arith)) in
     let w = entryWords (l .k) (getD (a .t1) (l .k) silent) in
     let six : c .before .before .before .before .before .entry-words .result ≡ w = c .before .before .before .before .before .entry-words .ensures in
     let ey : c .before .before .copy-words .last .1 .0 ≡ w ++ drop 6 (take (length (l .body) - 6 * l .k) (drop (6 * l .k) (l .body))) =
     copied-part w (l .body) (c .before .before .copy-words .last .1 .0) (6 * l .k) 6 (length-entry (l .k) _) (omega arith)
     (c .before .before .copy-words .ensures ∙ ap (λ (x : List ℕ). copied x (take (length (l .body) - 6 * l .k) (drop (6 * l .k) (l .body)))) six) in
-    let more : entriesFrom 0 (take (l .k + 1) (a .t1)) ++ drop (6 * (l .k + 1)) (now (a .body)) ≡ (front ++ w) ++ drop (6 * l .k + 6) (now (a .body)) =
-    ap₂ (λ (x : List ℕ) (m : ℕ). x ++ drop m (now (a .body))) (ap (λ (m : ℕ). entriesFrom 0 (take m (a .t1))) (add-one (l .k)) ∙ entries-more (a .t1) (l .k) (omega arith))
+    let more : entryWordsFrom 0 (take (l .k + 1) (a .t1)) ++ drop (6 * (l .k + 1)) (now (a .body)) ≡ (front ++ w) ++ drop (6 * l .k + 6) (now (a .body)) =
+    ap₂ (λ (x : List ℕ) (m : ℕ). x ++ drop m (now (a .body))) (ap (λ (m : ℕ). entryWordsFrom 0 (take m (a .t1))) (add-one (l .k)) ∙ entries-more (a .t1) (l .k) (omega arith))
     (let q : 6 * (l .k + 1) ≡ 6 * l .k + 6 = omega arith in q) in (
       search needs,
       part-laid (now (a .body)) front w (l .body) (c .before .before .copy-words .last .1 .0) (6 * l .k) 6 hn (length-entry (l .k) _) (l .inv .1) ey ∙ sym more,
@@ -90,7 +90,7 @@ returns c =
     let l = c .before .loop in
     let n : length (a .t1) ≡ 40 = search needs in
     let e : l .k ≡ 40 = omega arith in
-    l .inv .1 ∙ ap (λ (m : ℕ). entriesFrom 0 (take m (a .t1)) ++ drop (6 * m) (now (a .body))) e ∙ ap (λ (x : List Entry). entriesFrom 0 x ++ drop 240 (now (a .body))) (take-all 40 (a .t1) (omega arith))
+    l .inv .1 ∙ ap (λ (m : ℕ). entryWordsFrom 0 (take m (a .t1)) ++ drop (6 * m) (now (a .body))) e ∙ ap (λ (x : List Entry). entryWordsFrom 0 x ++ drop 240 (now (a .body))) (take-all 40 (a .t1) (omega arith))
 
 pub put-entries-spec : {M : Type 1} → statement M
 put-entries-spec =
