@@ -1,9 +1,10 @@
 -- Calls on a board, one after another: "In each call the board's state goes in and the next state comes out".
 use Prim.Native.Nat.{ℕ}
-use mathlib.Core.Bool.{Bool, true, false, _&&_, not}
+use mathlib.Core.Bool.{Bool, true, false, _&&_, _||_, not}
 use mathlib.Core.List.{List, [], _∷_}
 use Rattle.refusals.specs.Tables.{Answer, given, refused}
 use Rattle.packets.specs.declared.Fields.{Fields}
+use Rattle.commands.specs.Commands as commands
 use Rattle.commands.specs.declared.Command.{Command}
 use Rattle.commands.specs.declared.Command.the-variants.{Read, Write, Start, Stop, Ping, CrateReset}
 use Rattle.run.specs.Run.{clockedRun}
@@ -35,45 +36,42 @@ afterAll β (x ∷ xs) = afterAll (afterCall β x) xs
 
 -- ---- which commands were accepted
 
-abbrev pub isWrite : Answer Command → Bool
-isWrite (given (Read kind)) = false
-isWrite (given Write) = true
-isWrite (given (Start run)) = false
-isWrite (given Stop) = false
-isWrite (given Ping) = false
-isWrite (given (CrateReset c)) = false
-isWrite (refused n p) = false
+abbrev pub ping : Command → Bool
+ping (Read kind) = false
+ping Write = false
+ping (Start run) = false
+ping Stop = false
+ping Ping = true
+ping (CrateReset c) = false
 
-abbrev pub isPing : Answer Command → Bool
-isPing (given (Read kind)) = false
-isPing (given Write) = false
-isPing (given (Start run)) = false
-isPing (given Stop) = false
-isPing (given Ping) = true
-isPing (given (CrateReset c)) = false
-isPing (refused n p) = false
+abbrev pub startOrStop : Command → Bool
+startOrStop (Read kind) = false
+startOrStop Write = false
+startOrStop (Start run) = true
+startOrStop Stop = true
+startOrStop Ping = false
+startOrStop (CrateReset c) = false
 
 -- the commands that begin a pass
 abbrev pub beginsPass : Command → Bool
-beginsPass (Read kind) = false
-beginsPass Write = true
-beginsPass (Start run) = false
-beginsPass Stop = false
-beginsPass Ping = true
-beginsPass (CrateReset c) = false
+beginsPass c = commands.isWrite c || ping c
+
+-- whether such a command was accepted
+abbrev pub accepted : (Command → Bool) → Answer Command → Bool
+accepted such (given c) = such c
+accepted such (refused n p) = false
+
+abbrev pub isWrite : Answer Command → Bool
+isWrite a = accepted commands.isWrite a
+
+abbrev pub isPing : Answer Command → Bool
+isPing a = accepted ping a
 
 abbrev pub isWriteOrPing : Answer Command → Bool
-isWriteOrPing (given c) = beginsPass c
-isWriteOrPing (refused n p) = false
+isWriteOrPing a = accepted beginsPass a
 
 abbrev pub isStartOrStop : Answer Command → Bool
-isStartOrStop (given (Read kind)) = false
-isStartOrStop (given Write) = false
-isStartOrStop (given (Start run)) = true
-isStartOrStop (given Stop) = true
-isStartOrStop (given Ping) = false
-isStartOrStop (given (CrateReset c)) = false
-isStartOrStop (refused n p) = false
+isStartOrStop a = accepted startOrStop a
 
 -- whether no call among these is a command that gets such an answer
 abbrev pub noneGets : (Answer Command → Bool) → Board → List Call → Bool
