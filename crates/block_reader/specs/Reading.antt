@@ -32,6 +32,10 @@ placeAbove Dynamic body = 3 + lowestAbove measurementBound 0 (drop 3 body)
 placeAbove FtuList body = length body
 placeAbove Failure body = length body
 
+-- "8: a word above its bound; returns the lowest such place in the body"
+abbrev pub bodyAbove : Kind → List ℕ → Rule
+bodyAbove kind body = ruleAt 8 (ltb (placeAbove kind body) (bodyLength kind)) (placeAbove kind body)
+
 -- the header that words begin with (000, table 4.1)
 unfoldable pub headerIn : List ℕ → Header
 headerIn w =
@@ -42,12 +46,12 @@ headerIn w =
       timestamp = number 65536 (getD w 7 0 ∷ getD w 8 0 ∷ getD w 9 0 ∷ []);
     }
 
--- the refusals of a reader: "a read block's length differs from its kind's"; a word above its bound, with its place in the body;
--- "board ID at or above 2^57, or spare not zero"
+-- the refusals of a reader: "a read block's length differs from its kind's"; a word above its bound; "board ID at or above 2^57, or spare not
+-- zero"
 unfoldable pub readRules : Kind → List ℕ → List Rule
 readRules kind w =
     rule 6 (not (eqb (length w) (11 + bodyLength kind)))
-    ∷ ruleAt 8 (ltb (placeAbove kind (drop 11 w)) (bodyLength kind)) (placeAbove kind (drop 11 w))
+    ∷ bodyAbove kind (drop 11 w)
     ∷ rule 20 (leb (2 ^ 57) (headerIn w .«board_id») || not (eqb (getD w 10 0) 0))
     ∷ []
 

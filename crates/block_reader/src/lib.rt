@@ -1,12 +1,16 @@
 // The reader of blocks, for the far end: it is told the kind, gives the header, and hands back the body.
 ghost use mathlib.Core.Path.{_≡_};
+ghost use mathlib.Core.List.{[], _∷_};
 ghost use Prim.Native.Nat.{_≤_};
 ghost use lib.ListN.{length, drop};
+ghost use Rattle.refusals.specs.Tables.{lowest};
 ghost use Rattle.words.specs.Parts.{PartOf};
-ghost use Rattle.block_reader.specs.Reading.{bodyLength, placeAbove, headerIn, readOnPaper, blockAnswer, bodyWhere, ReadsBlock};
+ghost use Rattle.bounds.specs.Bounds.{checkedOnPaper};
+ghost use Rattle.block_reader.specs.Reading.{bodyLength, bodyAbove, headerIn, readOnPaper, blockAnswer, bodyWhere, ReadsBlock};
 use blocks::Header;
 use bounds::Bounded;
-use bounds::lowest_in;
+use bounds::BoundsChecked;
+use bounds::check_bounds;
 use numbers::number32;
 use numbers::number48;
 use numbers::number64;
@@ -41,16 +45,19 @@ impl Kind {
     }
 }
 
-// The lowest place of a body that is above its bound, or the body's length where there is none.
-fn place_above(kind: Kind, body: &[u16]) -> usize
+// Checks a body against its bounds.
+fn check_body(kind: Kind, body: &[u16]) -> BoundsChecked
     requires { ⌜ length (now body) ≡ bodyLength kind ⌝ }
-    ensures { λ r. ⌜ r ≡ placeAbove kind (now (body .entry)) ⌝ }
+    ensures { λ r. ⌜ checkedOnPaper r ≡ lowest (bodyAbove kind (now (body .entry)) ∷ []) tt ⌝ }
 {
     match kind {
-        Kind::Static => lowest_in(Bounded::Configuration, body),
-        Kind::Dynamic => 3 + lowest_in(Bounded::Measurements, &body[3..]),
-        Kind::FtuList => body.len(),
-        Kind::Failure => body.len(),
+        Kind::Static => check_bounds(Bounded::Configuration, body),
+        Kind::Dynamic => match check_bounds(Bounded::Measurements, &body[3..]) {
+            BoundsChecked::Within => BoundsChecked::Within,
+            BoundsChecked::Above(place) => BoundsChecked::Above(3 + place),
+        },
+        Kind::FtuList => BoundsChecked::Within,
+        Kind::Failure => BoundsChecked::Within,
     }
 }
 
@@ -79,9 +86,9 @@ pub fn read_block(kind: Kind, words: &[u16]) -> BlockRead
     if words.len() != 11 + length {
         return BlockRead::Refused(Refusal::WrongLength);
     }
-    let place = place_above(kind, &words[11..]);
-    if place < length {
-        return BlockRead::Refused(Refusal::AboveBound(place));
+    match check_body(kind, &words[11..]) {
+        BoundsChecked::Within => {}
+        BoundsChecked::Above(place) => return BlockRead::Refused(Refusal::AboveBound(place)),
     }
     let header = header_in(words);
     if 144115188075855872 <= header.board_id {

@@ -3,7 +3,9 @@ ghost use mathlib.Core.Path.{_≡_};
 ghost use Rattle.refusals.specs.Tables.{given};
 ghost use Rattle.words.specs.Parts.{PartOf};
 ghost use Rattle.command_reader.specs.Reading.{spareSet, countIn, Marked, readOnPaper, commandAnswer, usedOf, blockBefore, restAfter, ReadsCommand};
-use bounds::lowest_above;
+use bounds::Bounded;
+use bounds::BoundsChecked;
+use bounds::check_bounds;
 use commands::Command;
 use commands::Listed;
 use commands::listed_as;
@@ -51,9 +53,11 @@ fn read_listed(words: &[u16], c: Command) -> CommandRead
         return CommandRead::Refused(Refusal::NoEvents);
     }
     if c.is_write() {
-        let place = lowest_above(&words[5..441]);
-        if place < 436 {
-            return CommandRead::Refused(Refusal::AboveBound(place));
+        match check_bounds(Bounded::Configuration, &words[5..441]) {
+            BoundsChecked::Within => {}
+            BoundsChecked::Above(place) => {
+                return CommandRead::Refused(Refusal::AboveBound(place));
+            }
         }
     }
     CommandRead::Accepted(c, used)

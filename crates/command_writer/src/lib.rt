@@ -5,7 +5,9 @@ ghost use Rattle.refusals.specs.Writing.{Wrote};
 ghost use Rattle.commands.specs.declared.Command.the-variants.{Write, Start, CrateReset};
 ghost use Rattle.commands.specs.declared.RunLength.the-variants.{Counted};
 ghost use Rattle.command_writer.specs.Writing.{fiveWords, commandWords, writeRules, WroteCommand};
-use bounds::lowest_above;
+use bounds::Bounded;
+use bounds::BoundsChecked;
+use bounds::check_bounds;
 use commands::BlockKind;
 use commands::Command;
 use commands::RunLength;
@@ -62,9 +64,9 @@ fn put_write(block: &[u16], out: &mut [u16]) -> Written
     if block.len() != 436 {
         return Written::Refused(Refusal::WrongLength);
     }
-    let place = lowest_above(block);
-    if place < 436 {
-        return Written::Refused(Refusal::AboveBound(place));
+    match check_bounds(Bounded::Configuration, block) {
+        BoundsChecked::Within => {}
+        BoundsChecked::Above(place) => return Written::Refused(Refusal::AboveBound(place)),
     }
     if out.len() < 441 {
         return Written::Refused(Refusal::OutputTooShort);

@@ -2,7 +2,7 @@
 -- written, and every other block that no row of its own refuses: 20 never comes, nor 8 for the stored block.
 -- Assumes nothing.
 use Prim.Native.Nat.{ℕ, _+_, _<_, _≤_, _^_}
-use mathlib.Core.Path.{_≡_, refl, ap, subst, _∙_}
+use mathlib.Core.Path.{_≡_, ap, subst, _∙_}
 use mathlib.Core.List.{List}
 use native.Mathlib.Omega.{arith}
 use lib.ListN.{length, take}
@@ -63,7 +63,7 @@ module _ (β : Board) (h : Reachable β) where
   pub static-written : (out : List ℕ) (r : Written) (after : List ℕ) → 447 ≤ length out → SendsStatic β out r after
       → (r ≡ Length 447) × ReadsBack Static (take 447 after) (headerOf β) (β .block)
   static-written out r after room w =
-      let within : Clear (staticRules (β .block)) = above-clear boundOf 436 (β .block) _ refl (let e = h .within in omega arith) in
+      let within : Clear (staticRules (β .block)) = above-clear boundOf 436 (β .block) (let e = h .within in omega arith) in
       let e : r ≡ Length 447 = block-written (staticRules (β .block)) 436 (β .block) out r after within (h .length-block) room w in
       (e, static-reads out after 447 (subst (λ (x : Written). SendsStatic β out x after) e w))
 

@@ -7,6 +7,7 @@ use mathlib.Core.List.{List, [], _∷_, _++_}
 use native.Mathlib.Nat.{mod-eq-of-lt}
 use native.Mathlib.Omega.{arith}
 use lib.ListN.{length, take, length-append}
+use borrow.Author.Tests.{le-ltb}
 use Rattle.refusals.specs.Tables.{given, Rule}
 use Rattle.refusals.specs.declared.Written.the-variants.{Length}
 use Rattle.refusals.proofs.Writing.{wrote-front}
@@ -45,7 +46,7 @@ unfolding headerWords
 read-back kind h b id l free =
     let n : length (headerWords h ++ b) ≡ 11 + bodyLength kind = length-append (headerWords h) b ∙ ap (λ (k : ℕ). 11 + k) l in
     let e : blockAnswer kind (headerWords h ++ b) ≡ given (asSent h) =
-    sym (read-header kind (headerWords h ++ b) n (placeAbove kind b) refl free (asSent h) (header-back h b id) id refl) in
+    sym (read-header kind (headerWords h ++ b) n (le-ltb _ _ free) (asSent h) (header-back h b id) id refl) in
     record { header = e; body = ap (λ a. bodyWhere a b) e }
 
 -- the first n words of the lent output, as the writer says that it wrote them

@@ -15,7 +15,7 @@ use Rattle.refusals.specs.declared.Written.the-variants.{Length}
 use Rattle.refusals.proofs.Tables.{Clear}
 use Rattle.refusals.proofs.Writing.{wrote-front, wrote-clear}
 use Rattle.numbers.proofs.Numbers.{number-digits}
-use Rattle.bounds.specs.Bounds.{boundOf, lowestAbove}
+use Rattle.bounds.specs.Bounds.{boundOf}
 use Rattle.bounds.proofs.Lent.{lent-length, lent-within}
 use Rattle.commands.specs.Commands.{blockLength, noEvents, isWrite, listedAs}
 use Rattle.command_reader.specs.Reading.{namedIn, spareSet, Marked, taken, commandAnswer, usedOf, restOf, blockOf}
@@ -76,8 +76,8 @@ module _ (b rest : List ℕ) where
   unfolding spareSet
   read-written (Read kind) k f = other (Read kind) k f refl refl
   read-written Write k f =
-      read-write (written Write) Write (marked Write k f) refl (long Write k) refl 441 refl (lowestAbove boundOf 0 b) refl
-      (ap (lowestAbove boundOf 0) (sym (take-at b rest 436 (lent-length boundOf 436 b k)))) (lent-within boundOf 436 b k)
+      read-write (written Write) Write (marked Write k f) refl (long Write k) refl 441 refl refl
+      (rw (take-at b rest 436 (lent-length boundOf 436 b k)) (lent-within boundOf 436 b k))
   read-written (Start Endless) k f = other (Start Endless) k f refl refl
   read-written (Start (Counted x)) k f = other (Start (Counted x)) k f (k .0) refl
   read-written Stop k f = other Stop k f refl refl

@@ -18,17 +18,27 @@ use Rattle.command_writer.proofs.put_write.Tie as tie
 returns : tie.Need-returns
 returns c = wrote-refused _ _ _ WrongLength (lent-6 boundOf 436 _ (omega arith))
 
-lowest-above-requires : tie.Need-lowest-above-requires
-lowest-above-requires c κs = search needs
+check-bounds-requires : tie.Need-check-bounds-requires
+check-bounds-requires c κs = search needs
+
+enum-told : tie.Need-enum-told
+enum-told c = search needs
+
+enum-known-place : tie.Need-enum-known-place
+enum-known-place c = search needs
 
 returns-2 : tie.Need-returns-2
-returns-2 c = wrote-refused _ _ _ (AboveBound _) (lent-8 boundOf 436 _ (omega arith) _ (c .before .lowest-above .ensures) (omega arith))
+returns-2 c =
+    let checked = c .before .before .before .check-bounds in
+    wrote-refused _ _ _ (AboveBound _) (lent-8 boundOf 436 _ (omega arith) (checked .result) (checked .ensures) _ (c .before .place .given .1))
 
 returns-3 : tie.Need-returns-3
 returns-3 c =
-    let b = now (c .before .before .before .before .before .before .args .block) in
+    let b = now (c .before .before .before .before .before .before .before .args .block) in
     let n : length b ≡ 436 = omega arith in
-    wrote-short _ _ _ (lent-clear boundOf 436 b n _ (c .before .before .lowest-above .ensures) (omega arith)) 441 (ap (λ (k : ℕ). suc (suc (suc (suc (suc k))))) n) (omega arith)
+    let checked = c .before .before .before .check-bounds in
+    let within = lent-clear boundOf 436 b n (checked .result) (checked .ensures) (c .before .enum-told .given .1) in
+    wrote-short _ _ _ within 441 (ap (λ (k : ℕ). suc (suc (suc (suc (suc k))))) n) (omega arith)
 
 slice-aggregate-copy-words : tie.Need-slice-aggregate-copy-words
 slice-aggregate-copy-words c = search needs
@@ -53,12 +63,15 @@ same-length c = search needs
 
 returns-4 : tie.Need-returns-4
 returns-4 c =
-    let a = c .before .before .before .before .before .before .before .before .before .before .before .before .before .before .before .args in
+    let room = c .before .before .before .before .before .before .before .before .before in
+    let a = room .before .before .before .before .before .before .before .args in
     let b = now (a .block) in
     let n : length b ≡ 436 = omega arith in
+    let checked = room .before .before .before .check-bounds in
+    let within = lent-clear boundOf 436 b n (checked .result) (checked .ensures) (room .before .enum-told .given .1) in
     let p = c .before .before .before .before .before .before .copy-words in
     let q = c .before .before .copy-words2 in
-    wrote-both _ (lent-clear boundOf 436 b n _ (c .before .before .before .before .before .before .before .before .before .before .before .lowest-above .ensures) (omega arith)) (now (a .out)) (fiveWords 0x02 1) (fiveWords 0x02 1) b (p .last .1 .0) (q .last .1 .0) 5 436
+    wrote-both _ within (now (a .out)) (fiveWords 0x02 1) (fiveWords 0x02 1) b (p .last .1 .0) (q .last .1 .0) 5 436
     refl n (omega arith) refl (p .ensures) (copied-part b (p .last .1 .0) (q .last .1 .0) 5 436 n (omega arith) (q .ensures))
 
 pub put-write-spec : {M : Type 1} → statement M
@@ -66,7 +79,9 @@ put-write-spec =
     tie.close
     (tie.spec
     returns
-    lowest-above-requires
+    check-bounds-requires
+    enum-told
+    enum-known-place
     returns-2
     returns-3
     slice-aggregate-copy-words

@@ -1,4 +1,5 @@
 -- `ftu_list::write_list` meets its contract. Assumes nothing.
+use Prim.Native.Nat.{_≤_}
 use mathlib.Core.Path.{_≡_}
 use mathlib.Core.List.{[]}
 use lib.ListN.{length}
@@ -11,6 +12,13 @@ use native.Mathlib.Omega.{arith}
 use Rattle.ftu_list.proofs.write_list.Statement.{statement}
 use Rattle.ftu_list.proofs.write_list.Tie as tie
 
+-- where the header's writer did not refuse, there is room
+room : (c : tie.After-enum-told) → 260 ≤ length (now (c .before .before .before .before .before .before .before .args .out))
+room c =
+    let put = c .before .before .before .before .put-header in
+    let a = c .before .before .before .before .before .before .before .args in
+    omega (arith, header-room (a .h) _ (now (a .out)) (put .result) _ (put .ensures) _ (c .enum-told .given .1))
+
 put-header-requires : tie.Need-put-header-requires
 put-header-requires c κs = search needs
 
@@ -18,31 +26,16 @@ enum-told : tie.Need-enum-told
 enum-told c = search needs
 
 sub-put-list : tie.Need-sub-put-list
-sub-put-list c =
-    let told = c in
-    let put = told .before .before .before .before .put-header in
-    let a = told .before .before .before .before .before .before .before .args in
-    let room = header-room (a .h) 260 (now (a .out)) (put .result) _ (put .ensures) _ (told .enum-told .given .1) in
-    omega arith
+sub-put-list c = omega (arith, room c)
 
 part-put-list-start : tie.Need-part-put-list-start
-part-put-list-start c =
-    let told = c in
-    let put = told .before .before .before .before .put-header in
-    let a = told .before .before .before .before .before .before .before .args in
-    let room = header-room (a .h) 260 (now (a .out)) (put .result) _ (put .ensures) _ (told .enum-told .given .1) in
-    omega arith
+part-put-list-start c = omega (arith, room c)
 
 part-put-list-end : tie.Need-part-put-list-end
 part-put-list-end c = search needs
 
 put-list-requires : tie.Need-put-list-requires
-put-list-requires c κs =
-    let told = c .before in
-    let put = told .before .before .before .before .put-header in
-    let a = told .before .before .before .before .before .before .before .args in
-    let room = header-room (a .h) 260 (now (a .out)) (put .result) _ (put .ensures) _ (told .enum-told .given .1) in
-    omega arith
+put-list-requires c κs = omega (arith, room (c .before))
 
 enum-known-r : tie.Need-enum-known-r
 enum-known-r c = search needs

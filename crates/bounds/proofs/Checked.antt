@@ -1,0 +1,52 @@
+-- What a check of bounds found, and whether the row 8 applies, and with which place.
+-- Assumes nothing.
+use Prim.Native.Nat.{ℕ, _<_, _≤_}
+use mathlib.Core.Path.{_≡_, sym, ap, _∙_}
+use mathlib.Core.Bool.{true, false}
+use mathlib.Core.List.{List, [], _∷_}
+use mathlib.Core.Logic.{⊎-elim}
+use lib.ListN.{length}
+use borrow.Author.Tests.{lt-ltb, le-ltb, ltb-true, ltb-false}
+use Rattle.refusals.specs.Tables.{Rule, lowest}
+use Rattle.refusals.proofs.Tables.{Exactly, exactly, given-clear, refused-applies}
+use Rattle.bounds.specs.Bounds.{lowestAbove, aboveBound, checkedOnPaper, boundsAnswer}
+use Rattle.bounds.specs.declared.BoundsChecked.{BoundsChecked}
+use Rattle.bounds.specs.declared.BoundsChecked.the-variants.{Within, Above}
+
+-- ---- a check whose answer is that of one row
+
+module _ (row : Rule) (r : BoundsChecked) (e : checkedOnPaper r ≡ lowest (row ∷ []) tt) where
+  -- a word is above its bound: the row applies, with the place
+  pub row-above : (p : ℕ) → r ≡ Above p → (row .applies ≡ true) × (row .number ≡ 8) × (row .place ≡ p)
+  row-above p q = ⊎-elim (λ a. a) (λ a. absurd a) (refused-applies (row ∷ []) tt 8 p (sym e ∙ ap checkedOnPaper q))
+
+  -- each is within it: the row does not apply
+  pub row-within : r ≡ Within → row .applies ≡ false
+  row-within q = given-clear (row ∷ []) tt tt (sym e ∙ ap checkedOnPaper q) .0
+
+-- ---- the check of a list
+
+module _ (bound : ℕ → ℕ) (l : List ℕ) where
+  pub bounds-exactly : Exactly (aboveBound bound (length l) l ∷ []) tt (boundsAnswer bound l)
+  unfolding boundsAnswer
+  bounds-exactly = exactly (aboveBound bound (length l) l ∷ []) tt tt
+
+  module _ (p : ℕ) (e : p ≡ lowestAbove bound 0 l) where
+    pub answer-above : p < length l → checkedOnPaper (Above p) ≡ boundsAnswer bound l
+    unfolding boundsAnswer
+    answer-above a = rw e (simp (lt-ltb _ _ (rw e at a)))
+
+    pub answer-within : length l ≤ p → checkedOnPaper Within ≡ boundsAnswer bound l
+    unfolding boundsAnswer
+    answer-within a = simp (le-ltb _ _ (rw e at a))
+
+  module _ (r : BoundsChecked) (e : checkedOnPaper r ≡ boundsAnswer bound l) where
+    pub checked-above : (p : ℕ) → r ≡ Above p → (p ≡ lowestAbove bound 0 l) × (p < length l)
+    unfolding boundsAnswer
+    checked-above p q =
+        let a = row-above (aboveBound bound (length l) l) r e p q in
+        (sym (a .2), rw (sym (a .2)) (ltb-true _ _ (a .0)))
+
+    pub checked-within : r ≡ Within → length l ≤ lowestAbove bound 0 l
+    unfolding boundsAnswer
+    checked-within q = ltb-false _ _ (row-within (aboveBound bound (length l) l) r e q)
