@@ -45,7 +45,7 @@ impl Kind {
     }
 }
 
-// Checks a body against its bounds.
+// Checks a body against its bounds. The measurements of a dynamic one stand after three words of on-time.
 fn check_body(kind: Kind, body: &[u16]) -> BoundsChecked
     requires { ⌜ length (now body) ≡ bodyLength kind ⌝ }
     ensures { λ r. ⌜ checkedOnPaper r ≡ lowest (bodyAbove kind (now (body .entry)) ∷ []) tt ⌝ }

@@ -1,4 +1,4 @@
--- What a check of bounds found, and whether the row 8 applies, and with which place.
+-- What a check of bounds found: whether row 8 applies, and with which place.
 -- Assumes nothing.
 use Prim.Native.Nat.{ℕ, _<_, _≤_}
 use mathlib.Core.Path.{_≡_, sym, ap, _∙_}
@@ -27,10 +27,12 @@ module _ (row : Rule) (r : BoundsChecked) (e : checkedOnPaper r ≡ lowest (row 
 -- ---- the check of a list
 
 module _ (bound : ℕ → ℕ) (l : List ℕ) where
+  -- it refuses exactly where the row applies
   pub bounds-exactly : Exactly (aboveBound bound (length l) l ∷ []) tt (boundsAnswer bound l)
   unfolding boundsAnswer
   bounds-exactly = exactly (aboveBound bound (length l) l ∷ []) tt tt
 
+  -- the search gave p
   module _ (p : ℕ) (e : p ≡ lowestAbove bound 0 l) where
     pub answer-above : p < length l → checkedOnPaper (Above p) ≡ boundsAnswer bound l
     unfolding boundsAnswer
@@ -40,6 +42,7 @@ module _ (bound : ℕ → ℕ) (l : List ℕ) where
     unfolding boundsAnswer
     answer-within a = simp (le-ltb _ _ (rw e at a))
 
+  -- the check found r
   module _ (r : BoundsChecked) (e : checkedOnPaper r ≡ boundsAnswer bound l) where
     pub checked-above : (p : ℕ) → r ≡ Above p → (p ≡ lowestAbove bound 0 l) × (p < length l)
     unfolding boundsAnswer

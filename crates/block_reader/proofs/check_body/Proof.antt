@@ -85,6 +85,7 @@ returns-5 c =
     let is = c .enum-told5 .given .1 in
     rw is (failure-body (now (start .args .body)) (start .pre ∙ ap bodyLength is))
 
+-- the place in the body
 add-t13 : tie.Need-add-t13
 add-t13 c =
     let after = c .before .before .before in
