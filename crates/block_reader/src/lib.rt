@@ -1,7 +1,6 @@
 // The reader of blocks, for the far end: it is told the kind, gives the header, and hands back the body.
 ghost use mathlib.Core.Path.{_≡_};
 ghost use mathlib.Core.List.{[], _∷_};
-ghost use Prim.Native.Nat.{_≤_};
 ghost use lib.ListN.{length, drop};
 ghost use Rattle.refusals.specs.Tables.{lowest};
 ghost use Rattle.words.specs.Parts.{PartOf};

@@ -1,6 +1,5 @@
 // The writer of commands, for the far end.
-ghost use mathlib.Core.Path.{_≡_};
-ghost use mathlib.Core.List.{[], _∷_, _++_};
+ghost use mathlib.Core.List.{[]};
 ghost use Rattle.refusals.specs.Writing.{Wrote};
 ghost use Rattle.commands.specs.declared.Command.the-variants.{Write, Start, CrateReset};
 ghost use Rattle.commands.specs.declared.RunLength.the-variants.{Counted};

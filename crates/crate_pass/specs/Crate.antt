@@ -5,7 +5,7 @@ use mathlib.Core.Bool.{Bool, true, false, cond}
 use mathlib.Core.List.{List, [], _∷_}
 use lib.Dec.{ltb, leb, eqb}
 use lib.ListN.{set, replicate}
-use Rattle.refusals.specs.Tables.{Answer, given, refused, Rule, rule, lowest, onPaper}
+use Rattle.refusals.specs.Tables.{Answer, given, Rule, rule, lowest, onPaper}
 use Rattle.configuration.specs.Configuration.{flagSet}
 use Rattle.ftu_list.specs.declared.Entry.{Entry}
 use Rattle.steps.specs.declared.Heard.{Heard}

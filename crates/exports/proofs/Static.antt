@@ -6,7 +6,7 @@ use mathlib.Core.Path.{_≡_, refl, sym, ap, _∙_}
 use mathlib.Core.List.{List, [], _∷_, _++_, append-nil}
 use lib.ListN.{length, take, drop, replicate, length-append, drop-of-length-le}
 use borrow.Author.Tests.{eq-eqb}
-use Rattle.refusals.specs.Tables.{Answer, given, refused, rule}
+use Rattle.refusals.specs.Tables.{refused, rule}
 use Rattle.refusals.specs.Writing.{writtenOnPaper}
 use Rattle.refusals.specs.declared.Refusal.{Refusal}
 use Rattle.refusals.specs.declared.Refusal.the-variants.{WrongLength}

@@ -4,7 +4,7 @@ use mathlib.Core.Path.{_≡_}
 use mathlib.Core.Bool.{false, cond}
 use mathlib.Core.List.{List, [], _∷_, _++_}
 use lib.Dec.{eqb, ltb}
-use lib.ListN.{length, getD, take, drop, replicate}
+use lib.ListN.{length, getD, take, drop}
 use Rattle.refusals.specs.Tables.{Answer, given, refused, lowest}
 use Rattle.refusals.specs.Writing.{writingBy, laid}
 use Rattle.packets.specs.Packets.{packetBytes, packetAnswer}

@@ -1,11 +1,10 @@
 -- 01, Slow control, and Blocks sent out: what the four crates are together. None of it is stored.
 use Prim.Native.Nat.{ℕ, zero, suc, _/_, _%_}
-use mathlib.Core.Path.{_≡_}
 use mathlib.Core.Bool.{Bool, not, cond, _||_}
 use mathlib.Core.List.{List, [], _∷_}
 use lib.Dec.{eqb, leb, ltb}
 use lib.ListN.{length, getD}
-use Rattle.refusals.specs.Tables.{Answer, given, refused, Rule, rule, lowest, onPaper}
+use Rattle.refusals.specs.Tables.{Answer, given, Rule, rule, lowest, onPaper}
 use Rattle.ftu_list.specs.declared.Entry.{Entry}
 use Rattle.steps.specs.declared.Heard.{Heard}
 use Rattle.crate_pass.specs.Crate.{silent, entriesIn, isDone, begunCrate, Moved, moved, crateRules}

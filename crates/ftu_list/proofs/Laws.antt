@@ -41,11 +41,13 @@ entries-snoc k (d ∷ es) e =
     ∙ ap (λ (n : ℕ). (entryWords k d ++ entryWordsFrom (suc k) es) ++ entryWords n e) (let q : suc k + length es ≡ k + suc (length es) = omega arith in q)
 
 -- one board more
-pub entries-more : (es : List Entry) (k : ℕ) → k < length es → entryWordsFrom 0 (take (suc k) es) ≡ entryWordsFrom 0 (take k es) ++ entryWords k (getD es k silent)
+pub entries-more : (es : List Entry) (k : ℕ) → k < length es
+    → entryWordsFrom 0 (take (suc k) es) ≡ entryWordsFrom 0 (take k es) ++ entryWords k (getD es k silent)
 entries-more es k h =
     ap (entryWordsFrom 0) (take-suc es k silent h)
     ∙ entries-snoc 0 (take k es) (getD es k silent)
-    ∙ ap (λ (n : ℕ). entryWordsFrom 0 (take k es) ++ entryWords n (getD es k silent)) (let l = length-take-le k es (le-of-lt h) in let q : 0 + length (take k es) ≡ k = omega arith in q)
+    ∙ ap (λ (n : ℕ). entryWordsFrom 0 (take k es) ++ entryWords n (getD es k silent))
+    (let l = length-take-le k es (le-of-lt h) in let q : 0 + length (take k es) ≡ k = omega arith in q)
 
 -- how many of the boards from k up to `to` answered: board k, and those after it
 pub answered-on : (es : List Entry) (k to : ℕ) → k < to → to ≤ length es

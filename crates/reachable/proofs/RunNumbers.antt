@@ -15,7 +15,7 @@ use Rattle.commands.specs.declared.Command.{Command}
 use Rattle.commands.specs.declared.Command.the-variants.{Read, Write, Start, Stop, Ping, CrateReset}
 use Rattle.commands.specs.declared.RunLength.{RunLength}
 use Rattle.commands.specs.declared.RunLength.the-variants.{Endless, Counted}
-use Rattle.run.specs.Run.{isRunning, takesEvents, runningFor, clockedRun, triggerNumber, triggerAnswer, isLast, counted, afterTrigger, afterAnswer}
+use Rattle.run.specs.Run.{isRunning, takesEvents, runningFor, clockedRun, triggerNumber, triggerAnswer, isLast, afterTrigger, afterAnswer}
 use Rattle.run.specs.declared.Running.{Running}
 use Rattle.run.specs.declared.Running.the-variants.{Stopped}
 use Rattle.run.specs.declared.Run.{Run}

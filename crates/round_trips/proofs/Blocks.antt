@@ -19,7 +19,7 @@ use Rattle.bounds.specs.Bounds.{boundOf, measurementBound}
 use Rattle.bounds.proofs.Lent.{above-within, lent-within}
 use Rattle.blocks.specs.Blocks.{headerWords, staticRules, dynamicBody, measurementRules, failureBody, blockRules, WroteBlock, WroteStatic, WroteDynamic}
 use Rattle.blocks.specs.declared.Header.{Header}
-use Rattle.blocks.proofs.Laws.{length-header, block-length, block-clear, block-id}
+use Rattle.blocks.proofs.Laws.{block-length, block-clear, block-id}
 use Rattle.ftu_list.specs.List.{listBody}
 use Rattle.ftu_list.specs.declared.FtuList.{FtuList}
 use Rattle.round_trips.specs.Blocks.{asSent, ReadsBack}

@@ -74,7 +74,8 @@ loop-again c =
     copied-part w (l .body) (c .before .before .copy-words .last .1 .0) (6 * l .k) 6 (length-entry (l .k) _) (omega arith)
     (c .before .before .copy-words .ensures ∙ ap (λ (x : List ℕ). copied x (take (length (l .body) - 6 * l .k) (drop (6 * l .k) (l .body)))) six) in
     let more : entryWordsFrom 0 (take (l .k + 1) (a .t1)) ++ drop (6 * (l .k + 1)) (now (a .body)) ≡ (front ++ w) ++ drop (6 * l .k + 6) (now (a .body)) =
-    ap₂ (λ (x : List ℕ) (m : ℕ). x ++ drop m (now (a .body))) (ap (λ (m : ℕ). entryWordsFrom 0 (take m (a .t1))) (add-one (l .k)) ∙ entries-more (a .t1) (l .k) (omega arith))
+    ap₂ (λ (x : List ℕ) (m : ℕ). x ++ drop m (now (a .body)))
+    (ap (λ (m : ℕ). entryWordsFrom 0 (take m (a .t1))) (add-one (l .k)) ∙ entries-more (a .t1) (l .k) (omega arith))
     (let q : 6 * (l .k + 1) ≡ 6 * l .k + 6 = omega arith in q) in (
       search needs,
       part-laid (now (a .body)) front w (l .body) (c .before .before .copy-words .last .1 .0) (6 * l .k) 6 hn (length-entry (l .k) _) (l .inv .1) ey ∙ sym more,
@@ -90,7 +91,9 @@ returns c =
     let l = c .before .loop in
     let n : length (a .t1) ≡ 40 = search needs in
     let e : l .k ≡ 40 = omega arith in
-    l .inv .1 ∙ ap (λ (m : ℕ). entryWordsFrom 0 (take m (a .t1)) ++ drop (6 * m) (now (a .body))) e ∙ ap (λ (x : List Entry). entryWordsFrom 0 x ++ drop 240 (now (a .body))) (take-all 40 (a .t1) (omega arith))
+    l .inv .1
+    ∙ ap (λ (m : ℕ). entryWordsFrom 0 (take m (a .t1)) ++ drop (6 * m) (now (a .body))) e
+    ∙ ap (λ (x : List Entry). entryWordsFrom 0 x ++ drop 240 (now (a .body))) (take-all 40 (a .t1) (omega arith))
 
 pub put-entries-spec : {M : Type 1} → statement M
 put-entries-spec =
