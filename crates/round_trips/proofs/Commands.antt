@@ -1,6 +1,6 @@
 -- Reading what was written gives the command back, its block, and the words after it.
 -- Assumes nothing.
-use Prim.Native.Nat.{ℕ, zero, suc, _+_, _-_, _≤_}
+use Prim.Native.Nat.{ℕ, zero, suc, _+_, _-_, _≤_, _^_, _<_}
 use mathlib.Core.Path.{_≡_, refl, sym, ap, _∙_}
 use mathlib.Core.Bool.{false}
 use mathlib.Core.List.{List, [], _++_, append-nil}
@@ -14,6 +14,7 @@ use Rattle.refusals.specs.Writing.{writingRules}
 use Rattle.refusals.specs.declared.Written.the-variants.{Length}
 use Rattle.refusals.proofs.Tables.{Clear}
 use Rattle.refusals.proofs.Writing.{wrote-front, wrote-clear}
+use Rattle.numbers.specs.Numbers.{digits, number}
 use Rattle.numbers.proofs.Numbers.{number-digits}
 use Rattle.bounds.specs.Bounds.{boundOf}
 use Rattle.bounds.proofs.Lent.{lent-length, lent-within}
@@ -26,6 +27,10 @@ use Rattle.commands.specs.declared.Command.the-variants.{Read, Write, Start, St
 use Rattle.command_reader.proofs.Reading.{read-write, read-other}
 use Rattle.round_trips.specs.Commands.{ReadsBack}
 use Rattle.command_writer.specs.Writing.{blockFor, commandWords, writeRules, CountFits, WroteCommand}
+
+-- X "in 2 words, high first" reads back
+count-back : (x : ℕ) → x < 2 ^ 32 → number 65536 (digits 65536 2 x) ≡ x
+count-back x f = number-digits 65536 (omega arith) 2 x ∙ mod-eq-of-lt f
 
 module _ (b rest : List ℕ) where
   -- the words of c, with others after them
@@ -46,7 +51,7 @@ module _ (b rest : List ℕ) where
   named (Read Dynamic) k f = refl
   named Write k f = refl
   named (Start Endless) k f = refl
-  named (Start (Counted x)) k f = ap (λ (y : ℕ). given (Start (Counted y))) (number-digits 65536 (omega arith) 2 x ∙ mod-eq-of-lt f)
+  named (Start (Counted x)) k f = ap (λ (y : ℕ). given (Start (Counted y))) (count-back x f)
   named Stop k f = refl
   named Ping k f = refl
   named (CrateReset n) k f = reset-named n (ltb-false _ _ (k .0))
