@@ -17,7 +17,7 @@ use Rattle.any_order.specs.AnyOrder.{Item, ItemResult, itemCrate, result
 use Rattle.any_order.specs.AnyOrder.{fetched, results, final, framesIn, framesOn, allDone, refusedAll, AnyOrder}
 use Rattle.any_order.proofs.Begun.{begunCrates, four, start-is, still-after}
 use Rattle.any_order.proofs.OneCrate.{stepCells, final-is, results-are, crates-are, alone}
-use Rattle.any_order.proofs.SentOut.{in-pass, records-given, records-most, list-is, list-given, list-begun}
+use Rattle.any_order.proofs.SentOut.{in-pass, failures-are, records-given, records-most, list-is, list-given, list-begun}
 
 turned-refused : (f : ℕ → Crate → Event → Result × Crate) (xs : List Item) → turned noCrate f (refusal 11) xs ≡ refusedAll xs
 unfolding turned refusedAll
@@ -99,6 +99,7 @@ demand-3 β g a xs =
       above = above-are β g a xs;
       records = records-given β g a xs;
       records-most = records-most β g a xs;
+      records-kept = failures-are β g a xs;
       list = list-given β g a xs;
       list-kept = list-is β g a xs;
       rest = rest-is β g a xs;

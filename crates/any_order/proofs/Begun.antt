@@ -19,7 +19,7 @@ use Rattle.board.specs.State.{crateAt, situationOf, withCrates}
 use Rattle.board.specs.Commands.{written, pinged, afterCommand}
 use Rattle.board.specs.declared.Board.{Board}
 use Rattle.any_order.specs.Steps.{Step, step, steps, first}
-use Rattle.any_order.specs.AnyOrder.{Begin, write, ping, Accepted, startOf, kindOf, blockOf, wordOf, begunBoard}
+use Rattle.any_order.specs.AnyOrder.{Begin, write, ping, Accepted, startOf, kindOf, storedBlock, wordOf, begunBoard}
 use Rattle.any_order.proofs.Places.{first-at, begun-todo}
 use Rattle.any_order.proofs.Walks.{view-begun, fit-begun}
 use Rattle.any_order.proofs.Frames.{bound-begun}
@@ -30,7 +30,7 @@ use Rattle.any_order.proofs.Runs.{Runs}
 -- the four crates as the pass begins
 abbrev pub begunCrates : Board → Begin → List Crate
 begunCrates β g =
-    begunAll (kindOf g) (wordOf (blockOf β g) 0 ∷ wordOf (blockOf β g) 1 ∷ wordOf (blockOf β g) 2 ∷ wordOf (blockOf β g) 3 ∷ []) (β .crates)
+    begunAll (kindOf g) (wordOf (storedBlock β g) 0 ∷ wordOf (storedBlock β g) 1 ∷ wordOf (storedBlock β g) 2 ∷ wordOf (storedBlock β g) 3 ∷ []) (β .crates)
 
 -- the board in that pass, whose crates do not matter
 abbrev pub base : Board → Begin → Board
@@ -41,7 +41,7 @@ unfolding withCrates begunBoard
 base-with β g cs = refl
 
 -- the block that the reader hands back is the command's
-block-read : (β : Board) (w : List ℕ) → Accepted β (write w) → blockOf β (write w) ≡ reading.blockOf w
+block-read : (β : Board) (w : List ℕ) → Accepted β (write w) → storedBlock β (write w) ≡ reading.blockOf w
 block-read β w e = rw (obeyed-read w (situationOf β) Write e)
 
 pub start-is : (β : Board) (g : Begin) → Accepted β g → startOf β g ≡ begunBoard β g (begunCrates β g)
@@ -66,7 +66,7 @@ module _ (β : Board) (g : Begin) where
   four = refl
 
   abbrev pub crateBegun : ℕ → Crate
-  crateBegun c = begunCrate (kindOf g) (wordOf (blockOf β g) c) (crateAt β c)
+  crateBegun c = begunCrate (kindOf g) (wordOf (storedBlock β g) c) (crateAt β c)
 
   pub crate-begun : (c : ℕ) → c < 4 → getD (begunCrates β g) c noCrate ≡ crateBegun c
   unfolding begunAll
@@ -111,7 +111,7 @@ begun-board β g a =
     record {
       four = four β g;
       still = still-after β g a (begunCrates β g);
-      runs = λ c h. subst (Runs (kindOf g) (wordOf (blockOf β g) c)) (sym (crate-begun β g c h)) (runs-begun (kindOf g) (wordOf (blockOf β g) c) (crateAt β c));
+      runs = λ c h. subst (Runs (kindOf g) (wordOf (storedBlock β g) c)) (sym (crate-begun β g c h)) (runs-begun (kindOf g) (wordOf (storedBlock β g) c) (crateAt β c));
     }
 
 pub begun-after : (β : Board) (g : Begin) → Accepted β g → Begun (startOf β g)

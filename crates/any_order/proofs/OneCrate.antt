@@ -17,7 +17,7 @@ use Rattle.board.specs.declared.Board.{Board}
 use Rattle.cells.specs.Order.{only}
 use Rattle.cells.proofs.Cells.{end, out, endAlone, outAlone, end-at, out-at}
 use Rattle.any_order.specs.Steps.{Step, steps, Event, Pass, Result, refusal, first, none}
-use Rattle.any_order.specs.AnyOrder.{Item, ItemResult, itemCrate, resultCrate, Begin, Accepted, startOf, kindOf, blockOf, wordOf, begunBoard}
+use Rattle.any_order.specs.AnyOrder.{Item, ItemResult, itemCrate, resultCrate, Begin, Accepted, startOf, kindOf, storedBlock, wordOf, begunBoard}
 use Rattle.any_order.specs.AnyOrder.{fetched, results, final, framesIn, framesOn, acceptedIn, mostFrames, passResults, passEnd}
 use Rattle.any_order.specs.AnyOrder.{frameOn, passOn, resultsOn, endOn, Rising, stepOf, Alone}
 use Rattle.any_order.proofs.Kept.{failedSteps, failed-rising, boardsOf}
@@ -33,7 +33,7 @@ module _ (β : Board) (g : Begin) (a : Accepted β g) where
   start = startOf β g
 
   abbrev pub stepCells : ℕ → Crate → Event → Result × Crate
-  stepCells = crateStep (kindOf g) (blockOf β g)
+  stepCells = crateStep (kindOf g) (storedBlock β g)
 
   abbrev pub cratesAfter : List Item → List Crate
   cratesAfter xs = end noCrate stepCells (refusal 11) (begunCrates β g) xs
@@ -64,11 +64,11 @@ module _ (β : Board) (g : Begin) (a : Accepted β g) where
   unfolding begunBoard
   crates-are ys = ap (λ (γ : Board). γ .crates) (final-is ys)
 
-  pub block-is : (ys : List Item) → final start ys .block ≡ blockOf β g
+  pub block-is : (ys : List Item) → final start ys .block ≡ storedBlock β g
   unfolding begunBoard
   block-is ys = ap (λ (γ : Board). γ .block) (final-is ys)
 
-  start-block : start .block ≡ blockOf β g
+  start-block : start .block ≡ storedBlock β g
   unfolding begunBoard
   start-block = ap (λ (γ : Board). γ .block) (start-is β g a)
 
@@ -81,7 +81,7 @@ module _ (β : Board) (g : Begin) (a : Accepted β g) where
     kind = kindOf g
 
     abbrev word : ℕ
-    word = wordOf (blockOf β g) c
+    word = wordOf (storedBlock β g) c
 
     abbrev frame : Step → List ℕ
     frame = frameOn β g c
@@ -111,7 +111,7 @@ module _ (β : Board) (g : Begin) (a : Accepted β g) where
     pub view-is : view kind word at-end ≡ pass-end
     view-is =
         ap (view kind word) crate-is
-        ∙ run-end kind (blockOf β g) c first-crate own (runs-begun kind word (crateAt β c))
+        ∙ run-end kind (storedBlock β g) c first-crate own (runs-begun kind word (crateAt β c))
         ∙ ap (λ (p : Pass). passEnd frame p own) (view-begun kind word (crateAt β c))
 
     crate-results : only resultCrate c (results start xs) ≡ outAlone noCrate stepCells (refusal 11) c first-crate own
@@ -123,7 +123,7 @@ module _ (β : Board) (g : Begin) (a : Accepted β g) where
     answers-are : only resultCrate c (results start xs) ≡ resultsOn β g c xs
     answers-are =
         crate-results
-        ∙ run-results kind (blockOf β g) c first-crate own (runs-begun kind word (crateAt β c))
+        ∙ run-results kind (storedBlock β g) c first-crate own (runs-begun kind word (crateAt β c))
         ∙ ap (λ (p : Pass). passResults frame p own) (view-begun kind word (crateAt β c))
 
     -- ---- what the crate keeps
@@ -173,7 +173,7 @@ module _ (β : Board) (g : Begin) (a : Accepted β g) where
           length-map (first (passOn β g c .todo)) frame,
           ap (λ (ts : List ItemResult). length (framesIn ts)) crate-results,
           sent-begun kind word (crateAt β c),
-          run-sent kind (blockOf β g) c first-crate own (runs-begun kind word (crateAt β c)),
+          run-sent kind (storedBlock β g) c first-crate own (runs-begun kind word (crateAt β c)),
           ap (λ (k : Crate). k .sent) crate-is,
         )
 
@@ -202,7 +202,7 @@ module _ (β : Board) (g : Begin) (a : Accepted β g) where
           ap (λ (k : Crate). k .sent) crate-is,
           bound-sent (length (steps kind word)) (endAlone noCrate stepCells (refusal 11) c first-crate own .sent)
               (view kind word (endAlone noCrate stepCells (refusal 11) c first-crate own))
-              (run-runs kind (blockOf β g) c first-crate own (runs-begun kind word (crateAt β c)) .bound),
+              (run-runs kind (storedBlock β g) c first-crate own (runs-begun kind word (crateAt β c)) .bound),
           most-frames kind word,
         )
 

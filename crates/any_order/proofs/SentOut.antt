@@ -26,7 +26,7 @@ use Rattle.board.specs.State.{crateAt}
 use Rattle.board.specs.SentOut.{headerOf, listRules, listOf, failureRules, failedFrame, failureBodyOf, SendsList, SendsFailure}
 use Rattle.board.specs.declared.Board.{Board}
 use Rattle.cells.specs.Order.{only}
-use Rattle.any_order.specs.AnyOrder.{Item, itemCrate, Begin, write, ping, Accepted, startOf, blockOf, wordOf, activeOf, begunBoard, final}
+use Rattle.any_order.specs.AnyOrder.{Item, itemCrate, Begin, write, ping, Accepted, startOf, storedBlock, wordOf, activeOf, begunBoard, final}
 use Rattle.any_order.specs.AnyOrder.{passEnd, frameOn, passOn, endOn, allDone}
 use Rattle.any_order.specs.AnyOrder.{failuresOn, failures, duringPass, recordRules, pingList, listAfter, listBegun}
 use Rattle.any_order.proofs.Kept.{foundIn, failedSteps, rising-most}
@@ -69,7 +69,7 @@ module _ (β : Board) (g : Begin) (a : Accepted β g) (xs : List Item) where
   frames-failed : (c : ℕ) → c < 4 → map (frameIn (last .block) c) (failedSteps (crateAt last c .failed) 10) ≡ failuresOn β g c xs
   frames-failed c h = ap₂ (λ block ss. map (frameIn block c) ss) (block-is β g a xs) (failed-is β g a xs c h)
 
-  failures-are : map (recordFrame (last .block) (last .crates)) (records (last .crates)) ≡ failures β g xs
+  pub failures-are : map (recordFrame (last .block) (last .crates)) (records (last .crates)) ≡ failures β g xs
   unfolding failures
   failures-are =
       records-are (last .block) (last .crates)
@@ -118,9 +118,9 @@ list-write β w a xs =
     same : (c : ℕ) → c < 4 → entriesIn (crateAt (final (startOf β (write w)) xs) c) ≡ entriesIn (crateAt β c)
     same c h =
         ap entriesIn (crate-is β (write w) a xs c h)
-        ∙ run-list (blockOf β (write w)) c (crateBegun β (write w) c) (only itemCrate c xs)
-        (runs-begun Reprogramming (wordOf (blockOf β (write w)) c) (crateAt β c) .fit)
-        ∙ entries-kept (wordOf (blockOf β (write w)) c) (crateAt β c)
+        ∙ run-list (storedBlock β (write w)) c (crateBegun β (write w) c) (only itemCrate c xs)
+        (runs-begun Reprogramming (wordOf (storedBlock β (write w)) c) (crateAt β c) .fit)
+        ∙ entries-kept (wordOf (storedBlock β (write w)) c) (crateAt β c)
 
 -- a ping fills it
 list-ping : (β : Board) (w : List ℕ) (a : Accepted β (ping w)) (xs : List Item) → listBody (listOf (final (startOf β (ping w)) xs)) ≡ pingList β (ping w) xs

@@ -19,10 +19,11 @@ use Rattle.crate_pass.specs.declared.PassKind.{PassKind}
 use Rattle.crate_pass.specs.declared.PassKind.the-variants.{Reprogramming}
 use Rattle.crate_pass.specs.declared.Outcome.{Outcome}
 use Rattle.crate_pass.specs.declared.Crate.{Crate}
+use Rattle.four_crates.specs.FourCrates as four
 use Rattle.board.specs.State.{crateAt, isIdle}
 use Rattle.board.specs.Commands.{boardAnswer, boardAfter}
 use Rattle.board.specs.SlowControl.{frameAt, fetchRules, replyAnswer, boardReplied, sentAnswer}
-use Rattle.board.specs.SentOut.{headerOf, listOf, SendsList, SendsFailure}
+use Rattle.board.specs.SentOut.{headerOf, listOf, failedFrame, SendsList, SendsFailure}
 use Rattle.board.specs.declared.Board.{Board}
 use Rattle.cells.specs.Order.{only, from, ordered}
 use Rattle.any_order.specs.Steps.{Step, step, steps, servedFrom, Event, heard, wordsFrom, howMany}
@@ -66,9 +67,9 @@ kindOf (write w) = Reprogramming
 kindOf (ping w) = PassKind.Ping
 
 -- "the stored block": a write stores the one in its words, "then a data block where one is due"; a ping leaves it as it was
-abbrev pub blockOf : Board → Begin → List ℕ
-blockOf β (write w) = take 436 (drop 5 w)
-blockOf β (ping w) = β .block
+abbrev pub storedBlock : Board → Begin → List ℕ
+storedBlock β (write w) = take 436 (drop 5 w)
+storedBlock β (ping w) = β .block
 
 -- "Word 0x1B0 + c holds crate c's active flags"
 abbrev pub wordOf : List ℕ → ℕ → ℕ
@@ -87,7 +88,12 @@ runOf β (ping w) = β .run
 -- the state in a pass that so began: what is above, the crates cs, and the rest as before
 unfoldable pub begunBoard : Board → Begin → List Crate → Board
 begunBoard β g cs =
-    record { identity = β .identity; run = runOf β g; block = blockOf β g; kind = kindOf g; active = activeOf β g; crates = cs }
+    record { identity = β .identity; run = runOf β g; block = storedBlock β g; kind = kindOf g; active = activeOf β g; crates = cs }
+
+-- the list as the pass begins: as before the write, or the active words as stored and no entry
+abbrev pub listBegun : Board → Begin → List ℕ
+listBegun β (write w) = listBody (listOf β)
+listBegun β (ping w) = replicate 5 0 ++ (activeOf β (ping w) ++ replicate 240 0)
 
 -- ---- the items on the board
 
@@ -133,6 +139,17 @@ resultsAfter β g xs = results (startOf β g) xs
 abbrev pub boardAtEnd : Board → Begin → List Item → Board
 boardAtEnd β g xs = final (startOf β g) xs
 
+-- ---- the second order, and the items for no crate
+
+-- crate 0's items come first, then 1's, 2's and 3's, each in their own order, and "the items for a crate above 3 stand last"
+abbrev pub inOrder : List Item → List Item
+inOrder xs = ordered itemCrate 4 xs
+
+-- the items for no crate: each is refused with 11
+unfoldable pub refusedAll : List Item → List ItemResult
+refusedAll [] = []
+refusedAll (x ∷ xs) = (x, refusal 11) ∷ refusedAll xs
+
 -- ---- the frames sent on a crate, and their number
 
 unfoldable pub framesIn : List ItemResult → List (List ℕ)
@@ -174,10 +191,10 @@ ofFour f = f 0 ++ (f 1 ++ (f 2 ++ f 3))
 module _ (β : Board) (g : Begin) where
   -- the bytes of a step's frame on crate c
   abbrev pub frameOn : ℕ → Step → List ℕ
-  frameOn c s = stepFrame (blockOf β g) c (s .board) (s .code)
+  frameOn c s = stepFrame (storedBlock β g) c (s .board) (s .code)
 
   abbrev pub passOn : ℕ → Pass
-  passOn c = begun (steps (kindOf g) (wordOf (blockOf β g) c))
+  passOn c = begun (steps (kindOf g) (wordOf (storedBlock β g) c))
 
   abbrev pub resultsOn : ℕ → List Item → List ItemResult
   resultsOn c xs = passResults (frameOn c) (passOn c) (only itemCrate c xs)
@@ -228,17 +245,16 @@ abbrev pub listAfter : Board → Begin → List Item → List ℕ
 listAfter β (write w) xs = listBody (listOf β)
 listAfter β (ping w) xs = pingList β (ping w) xs
 
--- the list as the pass begins: as before the write, or the active words as stored and no entry
-abbrev pub listBegun : Board → Begin → List ℕ
-listBegun β (write w) = listBody (listOf β)
-listBegun β (ping w) = replicate 5 0 ++ (activeOf β (ping w) ++ replicate 240 0)
-
 -- each board is above the one before, from b on, and none above 9
 abbrev pub Rising : ℕ → List Step → Type 0
 Rising b [] = Unit
 Rising b (s ∷ ss) = (b ≤ s .board) × (s .board < 10) × Rising (suc (s .board)) ss
 
 -- ---- the claim
+
+-- the frames of the records that the board keeps
+abbrev pub recordFrames : Board → List (List ℕ)
+recordFrames β = map (failedFrame β) (four.records (β .crates))
 
 -- the outstanding step of a crate, where there is one
 unfoldable pub stepOf : Crate → List Step
@@ -258,18 +274,9 @@ pub record Alone (β : Board) (g : Begin) (c : ℕ) (xs : List Item) : Type 0 wh
   pub number : sentAnswer (boardAtEnd β g xs) c ≡ given (length (framesOn β g c xs))
   pub counted : length (framesOn β g c xs)
       ≡ acceptedIn (only resultCrate c (resultsAfter β g xs)) + length (fetched (boardAtEnd β g xs) c)
-  pub bounded : length (framesOn β g c xs) ≤ mostFrames (kindOf g) (wordOf (blockOf β g) c)
+  pub bounded : length (framesOn β g c xs) ≤ mostFrames (kindOf g) (wordOf (storedBlock β g) c)
   -- "Records stand in rising k": so do the steps that failed
   pub rising : Rising 0 (endOn β g c xs .failed)
-
--- the items for no crate: each is refused with 11
-unfoldable pub refusedAll : List Item → List ItemResult
-refusedAll [] = []
-refusedAll (x ∷ xs) = (x, refusal 11) ∷ refusedAll xs
-
--- the second order: crate 0's items come first, then 1's, 2's and 3's, each in their own order, and "the items for a crate above 3 stand last"
-abbrev pub inOrder : List Item → List Item
-inOrder xs = ordered itemCrate 4 xs
 
 -- Demand 3, of any board, an accepted write or ping on it, and any items
 pub record AnyOrder (β : Board) (g : Begin) (xs : List Item) : Type 0 where
@@ -291,6 +298,8 @@ pub record AnyOrder (β : Board) (g : Begin) (xs : List Item) : Type 0 where
       → SendsFailure (boardAtEnd β g xs) n out r after
       → WroteBlock (recordRules β g n xs) 29 (headerOf β) (failureBody 3 (getD (failures β g xs) n [])) out r after
   pub records-most : length (failures β g xs) ≤ 40
+  -- the records themselves, which `failure_message` does not give during the pass, by the frame that each has
+  pub records-kept : recordFrames (boardAtEnd β g xs) ≡ failures β g xs
   pub list : (out : List ℕ) (r : Written) (after : List ℕ)
       → SendsList (boardAtEnd β g xs) out r after
       → WroteBlock (duringPass β g xs ∷ []) 249 (headerOf β) (listAfter β g xs) out r after

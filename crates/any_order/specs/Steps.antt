@@ -1,5 +1,6 @@
 -- 01, Slow control: the steps of a pass on one crate, as the paper words them. Nothing here speaks of how the board keeps its place; which boards a
--- pass serves, how often a step is sent and what a ping finds are said here by themselves, and not taken from what the code's contracts cite.
+-- pass serves, how often a step is sent and what the list says of a board are said here by themselves, and not taken from what the code's contracts
+-- cite. What a reply says to a frame, good or not and with which DNA and CRC error byte, is `heardIn`, which the contracts cite too.
 use Prim.Native.Nat.{ℕ, zero, suc, _+_, _*_, _/_, _%_, _^_}
 use mathlib.Core.Bool.{Bool, true, false, cond}
 use mathlib.Core.List.{List, [], _∷_, _++_, map}
@@ -100,7 +101,7 @@ pub record Pass : Type 0 where
 abbrev pub pass : List Step → ℕ → List Step → List Found → Pass
 pass todo tries failed boards = record { todo = todo; tries = tries; failed = failed; boards = boards }
 
--- the steps ss as they begin: no send, no failure record, and "A ping clears the list as it begins"
+-- the steps ss as they begin: no failed send, no failure record, and "A ping clears the list as it begins"
 abbrev pub begun : List Step → Pass
 begun ss = pass ss 0 [] (replicate 10 nothing)
 

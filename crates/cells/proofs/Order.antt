@@ -1,8 +1,9 @@
--- `ordered` keeps each index's items in their own order (`only-ordered`, `from-ordered`), and its places rise (`ordered-rises`).
+-- `ordered` keeps each index's items in their own order (`only-ordered`, `from-ordered`), and its places rise (`ordered-rises`). What is made of each
+-- item may be put in order too (`map-ordered`).
 -- Assumes nothing.
 use Prim.Native.Nat.{ℕ, zero, suc, _<_, _≤_}
 use mathlib.Core.Path.{_≡_, refl, sym, ap, ap₂, _∙_}
-use mathlib.Core.List.{List, [], _∷_, _++_, append-nil}
+use mathlib.Core.List.{List, [], _∷_, _++_, map, append-nil, map-append}
 use mathlib.Core.Bool.{Bool, true, false, cond}
 use native.Mathlib.Omega.{arith}
 use lib.Dec.{leb, eqb}
@@ -238,3 +239,29 @@ module _ {Z : Type 0} (key : Z → ℕ) where
   pub from-ordered : (n : ℕ) (xs : List Z) → from key n (ordered key n xs) ≡ from key n xs
   unfolding ordered
   from-ordered n xs = from-append n (below key n xs) (from key n xs) ∙ ap₂ _++_ (from-below n n xs (omega arith)) (from-from n xs)
+
+-- ---- what is made of each item, with the item's index
+
+module _ {Z Y : Type 0} (key : Z → ℕ) (index : Y → ℕ) (f : Z → Y) (same : (z : Z) → index (f z) ≡ key z) where
+  map-head : (t : Bool) (z : Z) (zs : List Z) (ys : List Y) → map f zs ≡ ys → map f (cond t (z ∷ zs) zs) ≡ cond t (f z ∷ ys) ys
+  map-head true z zs ys e = ap (λ (l : List Y). f z ∷ l) e
+  map-head false z zs ys e = e
+
+  map-only : (c : ℕ) (zs : List Z) → map f (only key c zs) ≡ only index c (map f zs)
+  unfolding only
+  map-only c [] = refl
+  map-only c (z ∷ zs) = rw (same z) (map-head (eqb (key z) c) z (only key c zs) (only index c (map f zs)) (map-only c zs))
+
+  map-from : (n : ℕ) (zs : List Z) → map f (from key n zs) ≡ from index n (map f zs)
+  unfolding from
+  map-from n [] = refl
+  map-from n (z ∷ zs) = rw (same z) (map-head (leb n (key z)) z (from key n zs) (from index n (map f zs)) (map-from n zs))
+
+  map-below : (n : ℕ) (zs : List Z) → map f (below key n zs) ≡ below index n (map f zs)
+  unfolding below
+  map-below zero zs = refl
+  map-below (suc k) zs = map-append f (below key k zs) (only key k zs) ∙ ap₂ _++_ (map-below k zs) (map-only k zs)
+
+  pub map-ordered : (n : ℕ) (zs : List Z) → map f (ordered key n zs) ≡ ordered index n (map f zs)
+  unfolding ordered
+  map-ordered n zs = map-append f (below key n zs) (from key n zs) ∙ ap₂ _++_ (map-below n zs) (map-from n zs)
