@@ -1,4 +1,4 @@
--- The triggers of a run are numbered 1, 2, 3 and so on, and a counted run gives exactly X of them (`numbered`).
+-- The triggers of a run are numbered 1, 2, 3 and so on, and the Xth trigger ends a run of X events, and no other (`numbered`).
 -- Assumes nothing.
 use Prim.Native.Nat.{ℕ, suc, _+_, _<_}
 use mathlib.Core.Path.{_≡_, refl, sym, ap, _∙_, subst}
