@@ -63,7 +63,7 @@ mod plain {
     }
 
     pub fn pass(words: &[u16], items: &[u8]) -> Counted {
-        let left_over = (items.len() % ITEM != 0).then_some(Refusal::WrongLength);
+        let left_over = (items.len() % ITEM != 0).then_some(Refusal::PacketLength);
         let mut board = begun(words, 1, left_over)?;
         let mut good = 0;
         for item in items.chunks_exact(ITEM) {
@@ -301,11 +301,14 @@ fn single_calls(write: &[u16], writes: &[u8], pings: &[u8]) {
 /// Both refuse alike, and leave what was lent as it was.
 fn refusals(write: &[u16]) {
     let (stop, twice) = (&STOP[..], [&READ[..], &STOP[..]].concat());
-    for (words, items) in [(stop, 29), (stop, 28), (&write[..440], 30), (write, 30), (&PING, 28)] {
+    let cut = &write[..440];
+    for (words, items, refusal) in
+        [(stop, 29, 9), (stop, 28, 9), (cut, 30, 6), (write, 30, 13), (&PING, 28, 13)]
+    {
         let items = vec![0; items];
-        assert!(exports::pass(words, &items).is_err());
-        assert_eq!(exports::pass(words, &items), plain::pass(words, &items));
-        assert_eq!(exports::replies(words, &items), plain::pass(words, &items));
+        assert_eq!(exports::pass(words, &items), Err(refusal));
+        assert_eq!(exports::replies(words, &items), Err(refusal));
+        assert_eq!(plain::pass(words, &items), Err(refusal));
         assert_eq!(exports::time_ups(words, &items), plain::time_ups(words, &items));
     }
     assert_eq!((exports::packets(&[0; 8]), plain::packets(&[0; 8])), (Err(13), Err(13)));

@@ -46,9 +46,9 @@ lowerOf m n = cond (eqb m 0) n (cond (eqb n 0) m (cond (ltb n m) n m))
 unfoldable pub firstOf : ℕ → ℕ → ℕ
 firstOf m n = cond (eqb m 0) n m
 
--- a number where something is left over after parts of a size
-unfoldable pub leftOver : ℕ → ℕ → ℕ → ℕ
-leftOver number size n = cond (eqb (n % size) 0) 0 number
+-- 13 where bytes are left over at the end of a series of parts of a size
+unfoldable pub leftOver : ℕ → ℕ → ℕ
+leftOver size n = cond (eqb (n % size) 0) 0 13
 
 -- "19: lent output shorter than what is due"
 unfoldable pub noRoom : ℕ → ℕ → ℕ
@@ -122,9 +122,9 @@ goodOf (suc n) β items =
 unfoldable pub passOf : List ℕ → List ℕ → ℕ
 passOf w items = goodOf (length items / 29) (afterOne w) items
 
--- what refuses the call: its command, or 6 where the items are not of 29 bytes each, or 19
+-- what refuses the call: its command, or 13 where bytes are left over after the last item, or 19
 abbrev pub passRefusal : ℕ → ℕ → ℕ → ℕ
-passRefusal command n room = lowerOf (lowerOf command (leftOver 6 29 n)) (noRoom 1 room)
+passRefusal command n room = lowerOf (lowerOf command (leftOver 29 n)) (noRoom 1 room)
 
 abbrev pub CountsPass : List ℕ → List ℕ → List ℕ → ℕ → List ℕ → Type 0
 CountsPass w items out r after = Gives (passRefusal (firstRefusal 1 (freshBoard 0 0) w) (length items) (length out)) (passOf w items ∷ []) out r after
@@ -196,7 +196,7 @@ goodPackets bytes = goodFrom (length bytes / 7) bytes
 
 -- "13: packet is not 7 bytes", of what is left over
 abbrev pub CountsPackets : List ℕ → List ℕ → ℕ → List ℕ → Type 0
-CountsPackets bytes out r after = GivesCount (leftOver 13 7 (length bytes)) (goodPackets bytes) out r after
+CountsPackets bytes out r after = GivesCount (leftOver 7 (length bytes)) (goodPackets bytes) out r after
 
 -- ---- a static block, written and read back
 

@@ -68,12 +68,12 @@ fn lower_of(a: u8, b: u8) -> u8
     if b < a { b } else { a }
 }
 
-// A refusal's number where something is left over of a length after parts of a size, else 0.
-fn left_over(length: usize, size: usize, number: u8) -> u8
+// 13 where bytes are left over at the end of a series of parts of a size, else 0.
+fn left_over(length: usize, size: usize) -> u8
     requires { ⌜ 0 < size ⌝ }
-    ensures { λ r. ⌜ r ≡ leftOver number size length ⌝ }
+    ensures { λ r. ⌜ r ≡ leftOver size length ⌝ }
 {
-    if length % size == 0 { 0 } else { number }
+    if length % size == 0 { 0 } else { 13 }
 }
 
 // 19 where the lent output is shorter than what is due, else 0.
@@ -203,7 +203,7 @@ fn good_replies(first: [Crate; 4], block: &[u16], kind: PassKind, items: &[u8]) 
 fn pass_refusal(command: u8, length: usize, room: usize) -> u8
     ensures { λ r. ⌜ r ≡ passRefusal command length room ⌝ }
 {
-    let own = lower_of(command, left_over(length, 29, 6));
+    let own = lower_of(command, left_over(length, 29));
     lower_of(own, no_room(1, room))
 }
 
@@ -407,7 +407,7 @@ fn good_packets(bytes: &[u8]) -> u64
 pub extern "C" fn ftm_packets(bytes: &[u8], good: &mut [u64]) -> u8
     ensures { λ r. ⌜ CountsPackets (now (bytes .entry)) (now (good .entry)) r (now (good .exit)) ⌝ }
 {
-    let refusal = lower_of(left_over(bytes.len(), 7, 13), no_room(1, good.len()));
+    let refusal = lower_of(left_over(bytes.len(), 7), no_room(1, good.len()));
     if refusal != 0 {
         return refusal;
     }
