@@ -34,11 +34,12 @@ unfolding headerIn headerWords
 header-back h b id counter =
     let whole-id : h .«board_id» % 2 ^ 64 ≡ h .«board_id» = omega arith in
     let whole-counter : h .«trigger_counter» % 2 ^ 32 ≡ h .«trigger_counter» = omega arith in
+    let low-time : number 65536 (digits 65536 3 (h .timestamp)) ≡ asSent h .timestamp = number-digits 65536 (omega arith) 3 (h .timestamp) in
     λ i. record {
       «board_id» = sym (number-digits 65536 (omega arith) 4 (h .«board_id») ∙ whole-id) i;
       «firmware_id» = h .«firmware_id»;
       «trigger_counter» = sym (number-digits 65536 (omega arith) 2 (h .«trigger_counter») ∙ whole-counter) i;
-      timestamp = sym (number-digits 65536 (omega arith) 3 (h .timestamp)) i;
+      timestamp = sym low-time i;
     }
 
 -- the words of a block whose body has the kind's length, and no word above its bound
