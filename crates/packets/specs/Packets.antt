@@ -50,7 +50,7 @@ writeRules f = rule 15 (not (inRange f)) ∷ []
 -- a writer of a packet with these rules answered r, and the lent bytes `out` became `after`
 pub record WrotePacket (rules : List Rule) (number : ℕ) (f : Fields) (out : List ℕ) (r : Written) (after : List ℕ) : Type 0 where
   pub wrote : Wrote rules (packetBytes number f) out r after
-  -- a number that is written has the 32 bits of its four bytes
+  -- the four bytes of a number that is written hold it whole
   pub fits : (m : ℕ) → r ≡ Length m → number < 2 ^ 32
 
 -- whether a number is odd: its lowest bit
