@@ -71,7 +71,8 @@ module _ (x : ℕ) (f : Fields) (out : List ℕ) (r : Bool) (e : r ≡ inRange f
 
     -- after its seven stores
     pub written : x < 2 ^ 32 → (b : List ℕ) → b ≡ packetBytes x f → 7 ≤ length out
-        → After (Length 7) (set (set (set (set (set (set (set out 0 (getD b 0 0)) 1 (getD b 1 0)) 2 (getD b 2 0)) 3 (getD b 3 0)) 4 (getD b 4 0)) 5 (getD b 5 0)) 6 (getD b 6 0))
+        → After (Length 7)
+        (set (set (set (set (set (set (set out 0 (getD b 0 0)) 1 (getD b 1 0)) 2 (getD b 2 0)) 3 (getD b 3 0)) 4 (getD b 4 0)) 5 (getD b 5 0)) 6 (getD b 6 0))
     unfolding plain
     written fits b eb s =
         record {
