@@ -93,6 +93,7 @@ module _ (block stored out : List ℕ) (l : length block ≡ 436) (es : stored �
       record {
         wrote = wrote-alike-by (rule 6 _ ∷ []) [] _ (headerWords headerOfZeros ++ block) out w after tt (simp (eq-eqb _ _ l), tt) (q .wrote);
         size = q .size;
+        fits = q .fits;
       }
 
 -- every refusal has a number of 6 or more: 0 is given exactly where the block is written

@@ -1,6 +1,6 @@
 -- Laws of packets, one for each way that a function returns.
 -- Assumes nothing.
-use Prim.Native.Nat.{ℕ, suc, _/_, _%_, _<_, _≤_}
+use Prim.Native.Nat.{ℕ, suc, _/_, _%_, _^_, _<_, _≤_}
 use mathlib.Core.Path.{_≡_, refl, sym, ap, ap₂, _∙_}
 use mathlib.Core.Bool.{Bool, true, false, not, _&&_}
 use mathlib.Core.List.{List, [], _∷_, _++_}
@@ -11,12 +11,11 @@ use lib.Seq.{sets-eq, take-suc}
 use borrow.Author.Tests.{le-leb, lt-leb, leb-true, not-false, eq-eqb, ne-eqb}
 use Rattle.crc.specs.Crc.{crc}
 use Rattle.refusals.specs.Tables.{given, refused}
-use Rattle.refusals.specs.Writing.{Wrote}
 use Rattle.refusals.specs.declared.Refusal.the-variants.{TriggerFieldOutOfRange, OutputTooShort}
 use Rattle.refusals.specs.declared.Written.{Written}
 use Rattle.refusals.specs.declared.Written.the-variants.{Length, Refused}
-use Rattle.refusals.proofs.Writing.{wrote, wrote-short, wrote-refused}
-use Rattle.packets.specs.Packets.{type1, type2, plain, packetBytes, inRange, writeRules, packetIn, readRules, packetAnswer}
+use Rattle.refusals.proofs.Writing.{wrote, wrote-short, wrote-refused, refused≢length}
+use Rattle.packets.specs.Packets.{type1, type2, plain, packetBytes, inRange, writeRules, WrotePacket, packetIn, readRules, packetAnswer}
 use Rattle.packets.specs.declared.Fields.{Fields}
 
 -- ---- the ranges
@@ -52,21 +51,34 @@ packet-is x f t₁ t₂ c e₁ e₂ ec =
 
 module _ (x : ℕ) (f : Fields) (out : List ℕ) (r : Bool) (e : r ≡ inRange f) where
   abbrev After : Written → List ℕ → Type 0
-  After w after = Wrote (writeRules f) (packetBytes x f) out w after
+  After w after = WrotePacket (writeRules f) x f out w after
 
   pub write-15 : not r ≡ true → After (Refused TriggerFieldOutOfRange) out
-  write-15 h = wrote-refused _ _ _ TriggerFieldOutOfRange (rw (rw e at h))
+  write-15 h =
+      record {
+        wrote = wrote-refused _ _ _ TriggerFieldOutOfRange (rw (rw e at h));
+        fits = λ m z. absurd (refused≢length TriggerFieldOutOfRange m z);
+      }
 
   module _ (h : not r ≡ false) where
     pub write-19 : length out < 7 → After (Refused OutputTooShort) out
     unfolding plain
-    write-19 s = wrote-short _ _ _ (rw e at h, tt) 7 refl s
+    write-19 s =
+        record {
+          wrote = wrote-short _ _ _ (rw e at h, tt) 7 refl s;
+          fits = λ m z. absurd (refused≢length OutputTooShort m z);
+        }
 
     -- after its seven stores
-    pub written : (b : List ℕ) → b ≡ packetBytes x f → 7 ≤ length out
-        → After (Length 7) (set (set (set (set (set (set (set out 0 (getD b 0 0)) 1 (getD b 1 0)) 2 (getD b 2 0)) 3 (getD b 3 0)) 4 (getD b 4 0)) 5 (getD b 5 0)) 6 (getD b 6 0))
+    pub written : x < 2 ^ 32 → (b : List ℕ) → b ≡ packetBytes x f → 7 ≤ length out
+        → After (Length 7)
+        (set (set (set (set (set (set (set out 0 (getD b 0 0)) 1 (getD b 1 0)) 2 (getD b 2 0)) 3 (getD b 3 0)) 4 (getD b 4 0)) 5 (getD b 5 0)) 6 (getD b 6 0))
     unfolding plain
-    written b eb s = wrote _ _ _ (rw e at h, tt) 7 refl _ s (rw eb (sets-eq (packetBytes x f) out 0 s))
+    written fits b eb s =
+        record {
+          wrote = wrote _ _ _ (rw e at h, tt) 7 refl _ s (rw eb (sets-eq (packetBytes x f) out 0 s));
+          fits = λ m z. fits;
+        }
 
 -- ---- the reader
 

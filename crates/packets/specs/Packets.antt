@@ -1,11 +1,15 @@
 -- 01, Trigger packets (000, chapter 2): seven bytes, the last of which is the CRC of the others.
-use Prim.Native.Nat.{ℕ, _+_, _*_, _/_, _%_}
+use Prim.Native.Nat.{ℕ, _+_, _*_, _/_, _%_, _^_, _<_}
+use mathlib.Core.Path.{_≡_}
 use mathlib.Core.Bool.{Bool, true, false, not, _&&_}
 use mathlib.Core.List.{List, [], _∷_, _++_}
 use lib.Dec.{leb, eqb}
 use lib.ListN.{length, take, getD}
 use Rattle.crc.specs.Crc.{crc}
 use Rattle.refusals.specs.Tables.{Answer, given, Rule, rule, lowest, onPaper}
+use Rattle.refusals.specs.Writing.{Wrote}
+use Rattle.refusals.specs.declared.Written.{Written}
+use Rattle.refusals.specs.declared.Written.the-variants.{Length}
 use Rattle.packets.specs.declared.Fields.{Fields}
 use Rattle.packets.specs.declared.Packet.{Packet}
 use Rattle.packets.specs.declared.PacketRead.{PacketRead}
@@ -42,6 +46,12 @@ inRange f = leb (f .n) 40 && leb (f .«pulser_setting») 15
 -- a writer's own refusals: "15: n above 40 or setting above 15"
 abbrev pub writeRules : Fields → List Rule
 writeRules f = rule 15 (not (inRange f)) ∷ []
+
+-- a writer of a packet with these rules answered r, and the lent bytes `out` became `after`
+pub record WrotePacket (rules : List Rule) (number : ℕ) (f : Fields) (out : List ℕ) (r : Written) (after : List ℕ) : Type 0 where
+  pub wrote : Wrote rules (packetBytes number f) out r after
+  -- the four bytes of a number that is written hold it whole
+  pub fits : (m : ℕ) → r ≡ Length m → number < 2 ^ 32
 
 -- whether a number is odd: its lowest bit
 abbrev pub isOdd : ℕ → Bool

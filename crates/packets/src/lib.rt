@@ -1,8 +1,7 @@
 // Trigger packets: seven bytes, written from a number and its fields, and read.
 ghost use mathlib.Core.Path.{_≡_};
 ghost use Prim.Native.Nat.{_<_, _≤_};
-ghost use Rattle.refusals.specs.Writing.{Wrote};
-ghost use Rattle.packets.specs.Packets.{bitOf, inRange, packetBytes, numberIn, fieldsIn, writeRules, readOnPaper, packetAnswer};
+ghost use Rattle.packets.specs.Packets.{bitOf, inRange, packetBytes, numberIn, fieldsIn, writeRules, WrotePacket, readOnPaper, packetAnswer};
 use crc::crc_of_six;
 use refusals::Refusal;
 use refusals::Written;
@@ -69,7 +68,7 @@ fn packet_bytes(number: u32, f: Fields) -> [u8; 7]
 
 // Writes a packet to the front of the lent bytes.
 pub fn write_packet(p: Packet, out: &mut [u8]) -> Written
-    ensures { λ r. ⌜ Wrote (writeRules (p .fields)) (packetBytes (p .number) (p .fields)) (now (out .entry)) r (now (out .exit)) ⌝ }
+    ensures { λ r. ⌜ WrotePacket (writeRules (p .fields)) (p .number) (p .fields) (now (out .entry)) r (now (out .exit)) ⌝ }
 {
     if !in_range(p.fields) {
         return Written::Refused(Refusal::TriggerFieldOutOfRange);

@@ -2,8 +2,9 @@
 -- written, and every other block that no row of its own refuses: 20 never comes, nor 8 for the stored block.
 -- Assumes nothing.
 use Prim.Native.Nat.{ℕ, _+_, _<_, _≤_, _^_}
-use mathlib.Core.Path.{_≡_, ap, subst, _∙_}
+use mathlib.Core.Path.{_≡_, subst, _∙_}
 use mathlib.Core.List.{List}
+use native.Mathlib.Nat.{mod-eq-of-lt}
 use native.Mathlib.Omega.{arith}
 use lib.ListN.{length, take}
 use borrow.Author.Tests.{eqb-false}
@@ -15,27 +16,29 @@ use Rattle.refusals.proofs.Tables.{Clear}
 use Rattle.refusals.proofs.Writing.{wrote-length, wrote-clear}
 use Rattle.packets.specs.Packets.{plain, packetBytes, packetAnswer}
 use Rattle.packets.specs.declared.Fields.{Fields}
+use Rattle.numbers.specs.Numbers.{number}
 use Rattle.bounds.specs.Bounds.{boundOf}
 use Rattle.bounds.proofs.Lent.{above-clear}
 use Rattle.blocks.specs.Blocks.{staticRules, WroteBlock}
 use Rattle.blocks.specs.declared.Header.{Header}
 use Rattle.blocks.proofs.Laws.{block-accepts}
 use Rattle.ftu_list.specs.List.{listBody}
+use Rattle.block_reader.specs.Reading.{bodyOf}
 use Rattle.block_reader.specs.declared.Kind.{Kind}
 use Rattle.block_reader.specs.declared.Kind.the-variants.{Static, Dynamic, FtuList, Failure}
-use Rattle.round_trips.specs.Blocks.{asSent, ReadsBack}
+use Rattle.round_trips.specs.Blocks.{asSent, ReadsBack, DynamicBack}
 use Rattle.round_trips.proofs.Blocks.{static-back, dynamic-back, list-back, failure-back, sent-whole}
 use Rattle.round_trips.proofs.Packets as packets
 use Rattle.run.specs.Run.{triggerNumber, triggerRules}
-use Rattle.board.specs.SentOut.{headerOf, dynamicBodyOf, listRules, listOf, failureRules, failureBodyOf, SendsStatic, SendsDynamic, SendsList, SendsFailure}
+use Rattle.board.specs.SentOut.{headerOf, listRules, listOf, failureRules, failureBodyOf, SendsStatic, SendsDynamic, SendsList, SendsFailure}
 use Rattle.board.specs.declared.Board.{Board}
 use Rattle.reachable.specs.Reachable.{Reachable}
 
 module _ (β : Board) (h : Reachable β) where
-  -- the numbers of its header fit their words
+  -- the timestamp of its header fits its words
   as-held : {kind : Kind} {w b : List ℕ} → ReadsBack kind w (asSent (headerOf β)) b → ReadsBack kind w (headerOf β) b
   as-held {kind} {w} {b} r =
-      subst (λ (k : Header). ReadsBack kind w k b) (sent-whole (headerOf β) (let k = h .run .counter in omega arith) (h .run .timestamp)) r
+      subst (λ (k : Header). ReadsBack kind w k b) (sent-whole (headerOf β) (h .run .timestamp)) r
 
   -- ---- blocks: n words were written, from the front of what was lent
 
@@ -43,8 +46,15 @@ module _ (β : Board) (h : Reachable β) where
     pub static-reads : SendsStatic β out (Length n) after → ReadsBack Static (take n after) (headerOf β) (β .block)
     static-reads w = as-held (static-back (headerOf β) out n after (β .block) w)
 
-    pub dynamic-reads : (m : List ℕ) → SendsDynamic β m out (Length n) after → ReadsBack Dynamic (take n after) (headerOf β) (dynamicBodyOf β m)
-    dynamic-reads m w = as-held (dynamic-back (headerOf β) out n after (β .run .«on_time») m w)
+    pub dynamic-reads : (m : List ℕ) → SendsDynamic β m out (Length n) after → DynamicBack (take n after) (headerOf β) (β .run .«on_time») m
+    dynamic-reads m w =
+        let back = dynamic-back (headerOf β) out n after (β .run .«on_time») m w in
+        record { block = as-held (back .block); on-time = back .on-time; measurements = back .measurements }
+
+    -- whose on-time fits its words too
+    pub on-time-reads : (m : List ℕ) → SendsDynamic β m out (Length n) after
+        → number 65536 (take 3 (bodyOf Dynamic (take n after))) ≡ β .run .«on_time»
+    on-time-reads m w = dynamic-reads m w .on-time ∙ mod-eq-of-lt (h .run .on-time)
 
     pub list-reads : SendsList β out (Length n) after → ReadsBack FtuList (take n after) (headerOf β) (listBody (listOf β))
     list-reads w = as-held (list-back (headerOf β) out n after (listRules β) (listOf β) w)
@@ -79,6 +89,5 @@ module _ (β : Board) (h : Reachable β) where
       let room = eqb-false (β .run .«trigger_counter») 4294967295 (clear .1 .1 .0) in
       let low : triggerNumber (β .run) < 2 ^ 32 = let k = h .run .counter in omega arith in (
         omega arith,
-        packets.read-by (triggerRules (β .run) f) (triggerNumber (β .run)) f out n after w (clear .0)
-            ∙ ap given (packets.sent-whole (triggerNumber (β .run)) f low),
+        packets.read-by (triggerRules (β .run) f) (triggerNumber (β .run)) f out n after w low (clear .0),
       )

@@ -6,7 +6,7 @@ use mathlib.Core.Path.{_≡_, refl, sym, ap, _∙_}
 use mathlib.Core.List.{List, [], _∷_, _++_}
 use native.Mathlib.Nat.{mod-eq-of-lt}
 use native.Mathlib.Omega.{arith}
-use lib.ListN.{length, take, length-append}
+use lib.ListN.{length, take, drop, length-append}
 use borrow.Author.Tests.{le-ltb}
 use Rattle.refusals.specs.Tables.{given, Rule}
 use Rattle.refusals.specs.declared.Written.the-variants.{Length}
@@ -22,31 +22,34 @@ use Rattle.blocks.specs.declared.Header.{Header}
 use Rattle.blocks.proofs.Laws.{block-length, block-clear, block-id}
 use Rattle.ftu_list.specs.List.{listBody}
 use Rattle.ftu_list.specs.declared.FtuList.{FtuList}
-use Rattle.round_trips.specs.Blocks.{asSent, ReadsBack}
+use Rattle.round_trips.specs.Blocks.{asSent, ReadsBack, DynamicBack}
 use Rattle.block_reader.specs.Reading.{bodyLength, placeAbove, headerIn, blockAnswer, bodyWhere}
 use Rattle.block_reader.specs.declared.Kind.{Kind}
 use Rattle.block_reader.specs.declared.Kind.the-variants.{Static, Dynamic, FtuList as List′, Failure}
 use Rattle.block_reader.proofs.Laws.{read-header}
 
-header-back : (h : Header) (b : List ℕ) → h .«board_id» < 2 ^ 57 → asSent h ≡ headerIn (headerWords h ++ b)
+-- the numbers that fit their words stand in them, and of the timestamp its lowest 48 bits
+header-back : (h : Header) (b : List ℕ) → h .«board_id» < 2 ^ 64 → h .«trigger_counter» < 2 ^ 32 → asSent h ≡ headerIn (headerWords h ++ b)
 unfolding headerIn headerWords
-header-back h b id =
-    let low : h .«board_id» % 65536 ^ 4 ≡ h .«board_id» = mod-eq-of-lt (let k : h .«board_id» < 65536 ^ 4 = omega arith in k) in
+header-back h b id counter =
+    let whole-id : h .«board_id» % 2 ^ 64 ≡ h .«board_id» = omega arith in
+    let whole-counter : h .«trigger_counter» % 2 ^ 32 ≡ h .«trigger_counter» = omega arith in
+    let low-time : number 65536 (digits 65536 3 (h .timestamp)) ≡ asSent h .timestamp = number-digits 65536 (omega arith) 3 (h .timestamp) in
     λ i. record {
-      «board_id» = sym (number-digits 65536 (omega arith) 4 (h .«board_id») ∙ low) i;
+      «board_id» = sym (number-digits 65536 (omega arith) 4 (h .«board_id») ∙ whole-id) i;
       «firmware_id» = h .«firmware_id»;
-      «trigger_counter» = sym (number-digits 65536 (omega arith) 2 (h .«trigger_counter»)) i;
-      timestamp = sym (number-digits 65536 (omega arith) 3 (h .timestamp)) i;
+      «trigger_counter» = sym (number-digits 65536 (omega arith) 2 (h .«trigger_counter») ∙ whole-counter) i;
+      timestamp = sym low-time i;
     }
 
 -- the words of a block whose body has the kind's length, and no word above its bound
-read-back : (kind : Kind) (h : Header) (b : List ℕ) → h .«board_id» < 2 ^ 57 → length b ≡ bodyLength kind → bodyLength kind ≤ placeAbove kind b
-    → ReadsBack kind (headerWords h ++ b) (asSent h) b
+read-back : (kind : Kind) (h : Header) (b : List ℕ) → h .«board_id» < 2 ^ 57 → h .«trigger_counter» < 2 ^ 32 → length b ≡ bodyLength kind
+    → bodyLength kind ≤ placeAbove kind b → ReadsBack kind (headerWords h ++ b) (asSent h) b
 unfolding headerWords
-read-back kind h b id l free =
+read-back kind h b id counter l free =
     let n : length (headerWords h ++ b) ≡ 11 + bodyLength kind = length-append (headerWords h) b ∙ ap (λ (k : ℕ). 11 + k) l in
     let e : blockAnswer kind (headerWords h ++ b) ≡ given (asSent h) =
-    sym (read-header kind (headerWords h ++ b) n (le-ltb _ _ free) (asSent h) (header-back h b id) id refl) in
+    sym (read-header kind (headerWords h ++ b) n (le-ltb _ _ free) (asSent h) (header-back h b (omega arith) counter) (omega arith) refl) in
     record { header = e; body = ap (λ a. bodyWhere a b) e }
 
 -- the first n words of the lent output, as the writer says that it wrote them
@@ -55,7 +58,7 @@ module _ (own : List Rule) (kind : Kind) (h : Header) (b out : List ℕ) (n : �
   pub written-back : bodyLength kind ≤ placeAbove kind b → ReadsBack kind (take n after) (asSent h) b
   written-back free =
       rw (wrote-front (blockRules own h b out) (headerWords h ++ b) out n after (w .wrote))
-      (read-back kind h b (block-id own _ h b out n after w) (block-length own _ h b out n after w) free)
+      (read-back kind h b (block-id own _ h b out n after w) (w .fits n refl) (block-length own _ h b out n after w) free)
 
 -- ---- the four kinds
 
@@ -65,10 +68,15 @@ module _ (h : Header) (out : List ℕ) (n : ℕ) (after : List ℕ) where
       written-back (staticRules block) Static h block out n after w
       (above-within boundOf 436 block (block-clear (staticRules block) 436 h block out n after w))
 
-  pub dynamic-back : (t : ℕ) (m : List ℕ) → WroteDynamic h t m out (Length n) after → ReadsBack Dynamic (take n after) (asSent h) (dynamicBody t m)
+  pub dynamic-back : (t : ℕ) (m : List ℕ) → WroteDynamic h t m out (Length n) after → DynamicBack (take n after) (asSent h) t m
   dynamic-back t m w =
       let free = lent-within measurementBound 484 m (block-clear (measurementRules m) 487 h (dynamicBody t m) out n after w) in
-      written-back (measurementRules m) Dynamic h (dynamicBody t m) out n after w (omega arith)
+      let back = written-back (measurementRules m) Dynamic h (dynamicBody t m) out n after w (omega arith) in
+      record {
+        block = back;
+        on-time = ap (λ (b : List ℕ). number 65536 (take 3 b)) (back .body) ∙ number-digits 65536 (omega arith) 3 t;
+        measurements = ap (drop 3) (back .body);
+      }
 
   -- whatever rows the board puts in front
   module _ (own : List Rule) where
@@ -83,20 +91,14 @@ module _ (h : Header) (out : List ℕ) (n : ℕ) (after : List ℕ) where
         let k = block-length own 29 h (failureBody calls frame) out n after w in
         written-back own Failure h (failureBody calls frame) out n after w (omega arith)
 
--- ---- what the numbers read back as
-
--- a header whose numbers fit their words is as it was
-pub sent-whole : (h : Header) → h .«trigger_counter» < 2 ^ 32 → h .timestamp < 2 ^ 48 → asSent h ≡ h
-sent-whole h c t = λ i. record {
+-- a header whose timestamp fits its words reads back as it was
+pub sent-whole : (h : Header) → h .timestamp < 2 ^ 48 → asSent h ≡ h
+sent-whole h t = λ i. record {
   «board_id» = h .«board_id»;
   «firmware_id» = h .«firmware_id»;
-  «trigger_counter» = mod-eq-of-lt c i;
+  «trigger_counter» = h .«trigger_counter»;
   timestamp = mod-eq-of-lt t i;
 }
-
--- the on-time in a dynamic block's first three words: its lowest 48 bits
-pub on-time-back : (t : ℕ) (m : List ℕ) → number 65536 (take 3 (dynamicBody t m)) ≡ t % 2 ^ 48
-on-time-back t m = number-digits 65536 (omega arith) 3 t
 
 -- ---- from the wire
 

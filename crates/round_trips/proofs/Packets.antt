@@ -4,7 +4,7 @@ use Prim.Native.Nat.{ℕ, _+_, _*_, _/_, _%_, _^_, _<_, _≤_}
 use mathlib.Core.Path.{_≡_, refl, sym, ap, ap₂, _∙_, subst}
 use mathlib.Core.Bool.{Bool, true, false, not}
 use mathlib.Core.List.{List, [], _∷_, _++_}
-use native.Mathlib.Nat.{div-div-eq-div-mul, mod-eq-of-lt}
+use native.Mathlib.Nat.{div-div-eq-div-mul}
 use native.Mathlib.Omega.{arith}
 use lib.Dec.{eqb}
 use lib.ListN.{take, getD}
@@ -15,12 +15,12 @@ use Rattle.refusals.specs.Writing.{writingRules, Wrote}
 use Rattle.refusals.specs.declared.Written.the-variants.{Length}
 use Rattle.refusals.proofs.Writing.{wrote-front, wrote-clear}
 use Rattle.numbers.proofs.Listed.{spread, listed}
-use Rattle.packets.specs.Packets.{bitOf, type1, type2, plain, packetBytes, inRange, writeRules, isOdd, numberIn, fieldsIn, packetIn, readRules, packetAnswer}
+use Rattle.packets.specs.Packets.{bitOf, type1, type2, plain, packetBytes, inRange, writeRules, WrotePacket}
+use Rattle.packets.specs.Packets.{isOdd, numberIn, fieldsIn, packetIn, readRules, packetAnswer}
 use Rattle.packets.specs.declared.Fields.{Fields}
 use Rattle.packets.specs.declared.Packet.{Packet}
 use Rattle.packets.proofs.Laws.{within}
 use Rattle.packets.proofs.Tables.{read-exactly}
-use Rattle.round_trips.specs.Packets.{asSent}
 
 -- ---- written, then read
 
@@ -32,8 +32,8 @@ bit-odd : (t : Bool) (x : ℕ) → x % 2 ≡ bitOf t → isOdd x ≡ t
 bit-odd true x e = rw e
 bit-odd false x e = rw e
 
-module _ (x : ℕ) (f : Fields) (hn : f .n ≤ 40) (hs : f .«pulser_setting» ≤ 15) where
-  packet-back : packetIn (packetBytes x f) ≡ asSent x f
+module _ (x : ℕ) (f : Fields) (hx : x < 2 ^ 32) (hn : f .n ≤ 40) (hs : f .«pulser_setting» ≤ 15) where
+  packet-back : packetIn (packetBytes x f) ≡ record { number = x; fields = f }
   unfolding plain
   packet-back =
       let e₁ = bit-lt (f .external1) in
@@ -44,7 +44,7 @@ module _ (x : ℕ) (f : Fields) (hn : f .n ≤ 40) (hs : f .«pulser_setting» �
       let l₂ = bit-lt (f .lp2) in
       let t₁ = type1 f in
       let t₂ = type2 f in
-      let number : x % 256 + 256 * (x / 256 % 256 + 256 * (x / 256 / 256 % 256 + 256 * (x / 256 / 256 / 256 % 256))) ≡ x % 2 ^ 32 = omega arith in
+      let number : x % 256 + 256 * (x / 256 % 256 + 256 * (x / 256 / 256 % 256 + 256 * (x / 256 / 256 / 256 % 256))) ≡ x = omega arith in
       let n : t₁ / 4 ≡ f .n = omega arith in
       let setting : t₂ / 8 % 16 ≡ f .«pulser_setting» = omega arith in
       λ i. record {
@@ -61,7 +61,7 @@ module _ (x : ℕ) (f : Fields) (hn : f .n ≤ 40) (hs : f .«pulser_setting» �
         };
       }
 
-  read-bytes : packetAnswer (packetBytes x f) ≡ given (asSent x f)
+  read-bytes : packetAnswer (packetBytes x f) ≡ given (record { number = x; fields = f })
   unfolding plain readRules
   read-bytes =
       let sum : not (eqb (crc (plain x f)) (crc (plain x f))) ≡ false = simp (eq-eqb (crc (plain x f)) (crc (plain x f)) refl) in
@@ -69,22 +69,19 @@ module _ (x : ℕ) (f : Fields) (hn : f .n ≤ 40) (hs : f .«pulser_setting» �
       ap (λ (p : Packet). not (inRange (p .fields))) packet-back ∙ simp (le-leb _ _ hn, le-leb _ _ hs) in
       read-exactly (packetBytes x f) .clear-only (refl, (sum, (range, tt))) ∙ ap given packet-back
 
--- The first n bytes of the lent output, as a writer of a packet says that it wrote them, read as that packet. (A board's trigger has more rows
--- than the writer of packets, among them 15 too.)
+-- The first n bytes of the lent output, as a writer of a packet with any rows says that it wrote them, read as that packet, where its number has
+-- 32 bits and its fields are in range. (A board's trigger has more rows than the writer of packets, among them 15 too.)
 pub read-by : (rules : List Rule) (x : ℕ) (f : Fields) (out : List ℕ) (n : ℕ) (after : List ℕ) → Wrote rules (packetBytes x f) out (Length n) after
-    → not (inRange f) ≡ false → packetAnswer (take n after) ≡ given (asSent x f)
-read-by rules x f out n after w range =
+    → x < 2 ^ 32 → not (inRange f) ≡ false → packetAnswer (take n after) ≡ given (record { number = x; fields = f })
+read-by rules x f out n after w fits range =
     let r = within f (inRange f) refl range in
-    ap packetAnswer (wrote-front (writingRules rules (packetBytes x f) out) (packetBytes x f) out n after w) ∙ read-bytes x f (r .0) (r .1)
+    ap packetAnswer (wrote-front (writingRules rules (packetBytes x f) out) (packetBytes x f) out n after w) ∙ read-bytes x f fits (r .0) (r .1)
 
-pub read-written : (x : ℕ) (f : Fields) (out : List ℕ) (n : ℕ) (after : List ℕ) → Wrote (writeRules f) (packetBytes x f) out (Length n) after
-    → packetAnswer (take n after) ≡ given (asSent x f)
+-- and so they do, with no premise, where the writer of packets wrote them
+pub read-written : (x : ℕ) (f : Fields) (out : List ℕ) (n : ℕ) (after : List ℕ) → WrotePacket (writeRules f) x f out (Length n) after
+    → packetAnswer (take n after) ≡ given (record { number = x; fields = f })
 read-written x f out n after w =
-    read-by (writeRules f) x f out n after w (wrote-clear (writeRules f) (packetBytes x f) out n after w .0)
-
--- a number of 32 bits is as it was
-pub sent-whole : (x : ℕ) (f : Fields) → x < 2 ^ 32 → asSent x f ≡ record { number = x; fields = f }
-sent-whole x f h = λ i. record { number = mod-eq-of-lt h i; fields = f }
+    read-by (writeRules f) x f out n after (w .wrote) (w .fits n refl) (wrote-clear (writeRules f) (packetBytes x f) out n after (w .wrote) .0)
 
 -- ---- read, then written
 

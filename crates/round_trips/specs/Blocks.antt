@@ -2,18 +2,22 @@
 use Prim.Native.Nat.{ℕ, _%_, _^_}
 use mathlib.Core.Path.{_≡_}
 use mathlib.Core.List.{List}
+use lib.ListN.{take, drop}
 use Rattle.refusals.specs.Tables.{given}
+use Rattle.numbers.specs.Numbers.{number}
+use Rattle.blocks.specs.Blocks.{dynamicBody}
 use Rattle.blocks.specs.declared.Header.{Header}
 use Rattle.block_reader.specs.Reading.{blockAnswer, bodyOf}
 use Rattle.block_reader.specs.declared.Kind.{Kind}
+use Rattle.block_reader.specs.declared.Kind.the-variants.{Dynamic}
 
--- a header as a block holds it: "trigger counter in two [words]; timestamp in three", so of each its lowest 32, or 48, bits
+-- a header as a block holds it: "timestamp in three [words]", so its lowest 48 bits
 abbrev pub asSent : Header → Header
 asSent h =
     record {
       «board_id» = h .«board_id»;
       «firmware_id» = h .«firmware_id»;
-      «trigger_counter» = h .«trigger_counter» % 2 ^ 32;
+      «trigger_counter» = h .«trigger_counter»;
       timestamp = h .timestamp % 2 ^ 48;
     }
 
@@ -21,3 +25,9 @@ asSent h =
 pub record ReadsBack (kind : Kind) (w : List ℕ) (h : Header) (b : List ℕ) : Type 0 where
   pub header : blockAnswer kind w ≡ given h
   pub body : bodyOf kind w ≡ b
+
+-- the dynamic block reads as h, with the on-time t, "in three [words]", so its lowest 48 bits, and the measurements m
+pub record DynamicBack (w : List ℕ) (h : Header) (t : ℕ) (m : List ℕ) : Type 0 where
+  pub block : ReadsBack Dynamic w h (dynamicBody t m)
+  pub on-time : number 65536 (take 3 (bodyOf Dynamic w)) ≡ t % 2 ^ 48
+  pub measurements : drop 3 (bodyOf Dynamic w) ≡ m

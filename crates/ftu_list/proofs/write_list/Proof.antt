@@ -51,7 +51,7 @@ returns c =
     let a = start .args in
     let n : length (a .list .entries) ≡ 40 = search (length-mapped, start .good) depth 8 in
     block-wrote [] tt (a .h) (listBody (a .list)) (now (a .out)) 249 (length-body (a .list) n) (put .result) _ (put .ensures) _ (told .enum-told .given .1)
-    _ (c .before .before .put-list .ensures)
+    (search (needs, start .good)) _ (c .before .before .put-list .ensures)
 
 same-length-2 : tie.Need-same-length-2
 same-length-2 c = search needs

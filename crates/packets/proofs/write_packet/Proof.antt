@@ -64,7 +64,8 @@ same-length : tie.Need-same-length
 same-length c = simp length-set
 
 returns-3 : tie.Need-returns-3
-returns-3 c = written _ _ _ _ (c .before .before .before .in-range .ensures) (c .before .before .if1 .left) _ (c .packet-bytes .ensures) (omega arith)
+returns-3 c =
+    written _ _ _ _ (c .before .before .before .in-range .ensures) (c .before .before .if1 .left) (search needs) _ (c .packet-bytes .ensures) (omega arith)
 
 pub write-packet-spec : {M : Type 1} → statement M
 write-packet-spec =

@@ -41,7 +41,7 @@ returns-4 c =
     let at-running = at-end .before .before in
     let at-range = at-running .before .before in
     gives _ _ _ (rw (at-range .before .in-range .ensures) at (at-range .if1 .left)) (rw (at-running .before .is-running .ensures) at (at-running .if2 .left))
-    (at-end .if3 .left) _ _ (at-write .write-packet .ensures)
+    (at-end .if3 .left) _ _ (at-write .write-packet .ensures .wrote)
 
 pub give-spec : {M : Type 1} → statement M
 give-spec =
