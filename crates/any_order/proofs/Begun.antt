@@ -111,7 +111,8 @@ begun-board β g a =
     record {
       four = four β g;
       still = still-after β g a (begunCrates β g);
-      runs = λ c h. subst (Runs (kindOf g) (wordOf (storedBlock β g) c)) (sym (crate-begun β g c h)) (runs-begun (kindOf g) (wordOf (storedBlock β g) c) (crateAt β c));
+      runs = λ c h. let w = wordOf (storedBlock β g) c in
+          subst (Runs (kindOf g) w) (sym (crate-begun β g c h)) (runs-begun (kindOf g) w (crateAt β c));
     }
 
 pub begun-after : (β : Board) (g : Begin) → Accepted β g → Begun (startOf β g)
