@@ -24,7 +24,7 @@ use Rattle.any_order.specs.Steps.{Event, reply, timeUp}
 use Rattle.any_order.specs.AnyOrder.{Item, ItemResult, resultCrate, Begin, write, ping, Accepted, startOf, answerTo, afterItem, framesGiven}
 use Rattle.any_order.specs.AnyOrder.{fetched, sentAfter, resultOf, results, final, resultsAfter, boardAtEnd, inOrder, framesIn, framesOn, isAccepted}
 use Rattle.any_order.specs.Calls.{BegunBy, ServedItem, RepliesTo, Chained, lastBoard, itemsOf, Answered, answeredCrate, seen, answered}
-use Rattle.any_order.specs.Calls.{Fetch, FetchedOn, boardsAfter, framesSeen, allSeen, Sent, OfCalls}
+use Rattle.any_order.specs.Calls.{Fetch, FetchesOn, boardsAfter, framesSeen, allSeen, Sent, OfCalls}
 use Rattle.any_order.proofs.Fetch.{fetch-gives}
 use Rattle.any_order.proofs.AnyOrder.{demand-3}
 
@@ -39,13 +39,13 @@ board-is β c (reply bytes) r p = p .board
 board-is β c timeUp r p = p .board
 
 -- the frame that is fetched is the one that the claim has
-fetched-given : (β : Board) (c : ℕ) (f : List ℕ) → lowest (fetchRules β c) (frameAt β c) ≡ given f → fetched β c ≡ frameAt β c ∷ []
+outstanding-given : (β : Board) (c : ℕ) (f : List ℕ) → lowest (fetchRules β c) (frameAt β c) ≡ given f → fetched β c ≡ frameAt β c ∷ []
 unfolding fetched
-fetched-given β c f e = ap framesGiven (e ∙ ap given (sym (given-same (fetchRules β c) (frameAt β c) f e)))
+outstanding-given β c f e = ap framesGiven (e ∙ ap given (sym (given-same (fetchRules β c) (frameAt β c) f e)))
 
-fetched-refused : (β : Board) (c n p : ℕ) → lowest (fetchRules β c) (frameAt β c) ≡ refused n p → fetched β c ≡ []
+none-outstanding : (β : Board) (c n p : ℕ) → lowest (fetchRules β c) (frameAt β c) ≡ refused n p → fetched β c ≡ []
 unfolding fetched
-fetched-refused β c n p e = ap framesGiven e
+none-outstanding β c n p e = ap framesGiven e
 
 frames-are : (β : Board) (c : ℕ) (r : Written) (out after : List ℕ) → 28 ≤ length out → Wrote (fetchRules β c) (frameAt β c) out r after
     → framesSeen r after ≡ fetched β c
@@ -55,12 +55,12 @@ frames-are β c (Length n) out after h w =
 frames-are β c (Refused r) out after h w = go (lowest (fetchRules β c) (frameAt β c)) refl
   where
     go : (x : Answer (List ℕ)) → lowest (fetchRules β c) (frameAt β c) ≡ x → [] ≡ fetched β c
-    go (given f) e = absurd (given≢refused (sym (fetch-gives β c out h .gives (fetched-given β c f e)) ∙ sym (w .answer)))
-    go (refused n p) e = sym (fetched-refused β c n p e)
+    go (given f) e = absurd (given≢refused (sym (fetch-gives β c out h .gives (outstanding-given β c f e)) ∙ sym (w .answer)))
+    go (refused n p) e = sym (none-outstanding β c n p e)
 
 -- ---- a series
 
-pub chained-answers : (β : Board) (ss : List ServedItem) → Chained β ss → map seen ss ≡ map answered (results β (itemsOf ss))
+chained-answers : (β : Board) (ss : List ServedItem) → Chained β ss → map seen ss ≡ map answered (results β (itemsOf ss))
 unfolding results resultOf
 chained-answers β [] p = refl
 chained-answers β (s ∷ ss) p =
@@ -68,7 +68,7 @@ chained-answers β (s ∷ ss) p =
     (chained-answers (s .replied .board) ss (p .1)
     ∙ ap (λ (γ : Board). map answered (results γ (itemsOf ss))) (board-is β (s .item .0) (s .item .1) (s .replied) (p .0)))
 
-pub chained-final : (β : Board) (ss : List ServedItem) → Chained β ss → lastBoard β ss ≡ final β (itemsOf ss)
+chained-final : (β : Board) (ss : List ServedItem) → Chained β ss → lastBoard β ss ≡ final β (itemsOf ss)
 unfolding final
 chained-final β [] p = refl
 chained-final β (s ∷ ss) p =
@@ -78,17 +78,17 @@ chained-final β (s ∷ ss) p =
 -- ---- its frames on a crate
 
 -- those outstanding on the boards
-unfoldable fetchedOn : ℕ → List Board → List (List ℕ)
-fetchedOn c [] = []
-fetchedOn c (γ ∷ γs) = fetched γ c ++ fetchedOn c γs
+unfoldable outstandingOn : ℕ → List Board → List (List ℕ)
+outstandingOn c [] = []
+outstandingOn c (γ ∷ γs) = fetched γ c ++ outstandingOn c γs
 
-seen-fetched : (c : ℕ) (γs : List Board) (fs : List Fetch) → FetchedOn c γs fs → allSeen fs ≡ fetchedOn c γs
-unfolding allSeen fetchedOn
+seen-fetched : (c : ℕ) (γs : List Board) (fs : List Fetch) → FetchesOn c γs fs → allSeen fs ≡ outstandingOn c γs
+unfolding allSeen outstandingOn
 seen-fetched c [] [] p = refl
 seen-fetched c [] (f ∷ fs) p = absurd p
 seen-fetched c (γ ∷ γs) [] p = absurd p
 seen-fetched c (γ ∷ γs) (f ∷ fs) p =
-    ap₂ _++_ (frames-are γ c (f .answer) (f .lent) (f .after) (p .0 .room) (p .0 .fetches)) (seen-fetched c γs fs (p .1))
+    ap₂ _++_ (frames-are γ c (f .answer) (f .lent) (f .after) (p .0 .room) (p .0 .keeps)) (seen-fetched c γs fs (p .1))
 
 -- an item with its answer, and what is sent then of the board that it returned
 abbrev resulting : Item → Answer Outcome → Board → ItemResult
@@ -96,21 +96,21 @@ resulting x a γ = (x, record { answer = a; frames = sentAfter a (fetched γ (x 
 
 module _ (c : ℕ) where
   -- one item more: the board that it returned is fetched from exactly where the claim has its frame
-  one-more : (x : Item) (a : Answer Outcome) (γ : Board) (γs : List Board) (ts : List ItemResult) → fetchedOn c γs ≡ framesIn (only resultCrate c ts)
-      → fetchedOn c (cond (eqb (x .0) c && isAccepted a) (γ ∷ γs) γs)
+  one-more : (x : Item) (a : Answer Outcome) (γ : Board) (γs : List Board) (ts : List ItemResult) → outstandingOn c γs ≡ framesIn (only resultCrate c ts)
+      → outstandingOn c (cond (eqb (x .0) c && isAccepted a) (γ ∷ γs) γs)
       ≡ framesIn (only resultCrate c (resulting x a γ ∷ ts))
-  unfolding fetchedOn only framesIn
+  unfolding outstandingOn only framesIn
   one-more x a γ γs ts e = go (eqb (x .0) c) refl a
     where
       go : (t : Bool) → eqb (x .0) c ≡ t → (a : Answer Outcome)
-          → fetchedOn c (cond (t && isAccepted a) (γ ∷ γs) γs)
+          → outstandingOn c (cond (t && isAccepted a) (γ ∷ γs) γs)
           ≡ framesIn (cond t (resulting x a γ ∷ only resultCrate c ts) (only resultCrate c ts))
       go true h (given o) = ap₂ (λ (k : ℕ) (fs : List (List ℕ)). fetched γ k ++ fs) (sym (eqb-true _ _ h)) e
       go true h (refused n p) = e
       go false h a = e
 
-  chained-frames : (β : Board) (ss : List ServedItem) → Chained β ss → fetchedOn c (boardsAfter c ss) ≡ framesIn (only resultCrate c (results β (itemsOf ss)))
-  unfolding results resultOf boardsAfter fetchedOn only framesIn
+  chained-frames : (β : Board) (ss : List ServedItem) → Chained β ss → outstandingOn c (boardsAfter c ss) ≡ framesIn (only resultCrate c (results β (itemsOf ss)))
+  unfolding results resultOf boardsAfter outstandingOn only framesIn
   chained-frames β [] p = refl
   chained-frames β (s ∷ ss) p =
       one-more (s .item) (replyOnPaper (s .replied .answer)) (s .replied .board) (boardsAfter c ss) (results (s .replied .board) (itemsOf ss))
@@ -133,7 +133,7 @@ module _ (β : Board) (g : Begin) (returned : Board) (start : returned ≡ start
   answers-of = chained-answers returned ss p ∙ ap (λ (γ : Board). map answered (results γ (itemsOf ss))) start
 
   frames-of : (c : ℕ) → Sent c returned ss (framesOn β g c (itemsOf ss))
-  unfolding fetchedOn
+  unfolding outstandingOn
   frames-of c fs f =
       seen-fetched c (returned ∷ boardsAfter c ss) fs f
       ∙ ap (λ (l : List (List ℕ)). fetched returned c ++ l) (chained-frames c returned ss p)

@@ -76,16 +76,16 @@ pub record Fetch : Type 0 where
   pub after : List ℕ
 
 -- it keeps its contract on crate c of the board, and enough bytes are lent for a frame
-pub record Fetched (β : Board) (c : ℕ) (f : Fetch) : Type 0 where
+pub record Fetches (β : Board) (c : ℕ) (f : Fetch) : Type 0 where
   pub room : 28 ≤ length (f .lent)
-  pub fetches : Wrote (fetchRules β c) (frameAt β c) (f .lent) (f .answer) (f .after)
+  pub keeps : Wrote (fetchRules β c) (frameAt β c) (f .lent) (f .answer) (f .after)
 
 -- one fetch on each of the boards
-abbrev pub FetchedOn : ℕ → List Board → List Fetch → Type 0
-FetchedOn c [] [] = Unit
-FetchedOn c [] (f ∷ fs) = ⊥
-FetchedOn c (γ ∷ γs) [] = ⊥
-FetchedOn c (γ ∷ γs) (f ∷ fs) = Fetched γ c f × FetchedOn c γs fs
+abbrev pub FetchesOn : ℕ → List Board → List Fetch → Type 0
+FetchesOn c [] [] = Unit
+FetchesOn c [] (f ∷ fs) = ⊥
+FetchesOn c (γ ∷ γs) [] = ⊥
+FetchesOn c (γ ∷ γs) (f ∷ fs) = Fetches γ c f × FetchesOn c γs fs
 
 -- when a caller fetches for crate c: on the board that the command returned, and after each accepted item for c on the one that the item returned
 unfoldable pub boardsAfter : ℕ → List ServedItem → List Board
@@ -104,7 +104,7 @@ allSeen (f ∷ fs) = framesSeen (f .answer) (f .after) ++ allSeen fs
 
 -- the frames so fetched on crate c are the given ones
 abbrev pub Sent : ℕ → Board → List ServedItem → List (List ℕ) → Type 0
-Sent c returned ss frames = (fs : List Fetch) → FetchedOn c (returned ∷ boardsAfter c ss) fs → allSeen fs ≡ frames
+Sent c returned ss frames = (fs : List Fetch) → FetchesOn c (returned ∷ boardsAfter c ss) fs → allSeen fs ≡ frames
 
 -- ---- the claim, of any board, an accepted write or ping on it, and two series of the same items, the second in the order of the crates
 

@@ -15,7 +15,7 @@ use Rattle.crate_pass.specs.declared.Crate.{Crate}
 use Rattle.crate_pass.specs.declared.Place.{Place}
 use Rattle.crate_pass.specs.declared.Outcome.the-variants.{Good, Again, BoardFailed}
 use Rattle.crate_pass.specs.Crate.{isDone, countedFrame, callsAt, notedIn, placed, advanced, stepped, noted, marked}
-use Rattle.crate_pass.specs.Crate.{Moved, told, passed, missed, moved, crateAnswer, crateAfter, Serves}
+use Rattle.crate_pass.specs.Crate.{Moved, passed, missed, moved, crateAnswer, crateAfter, Serves}
 use Rattle.crate_pass.specs.NextPlace.{nextPlace, placeAfter}
 
 module _ (kind : PassKind) (w : ℕ) (k : Crate) (h : Heard) where

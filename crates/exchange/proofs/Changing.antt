@@ -32,7 +32,7 @@ use Rattle.board.specs.declared.TriggeredOn.{TriggeredOn}
 use Rattle.board.specs.declared.Replied.{Replied}
 use Rattle.texts.specs.Texts.{inBytes}
 use Rattle.texts.specs.declared.Said.{Said}
-use Rattle.texts.specs.declared.Said.the-variants.{Question, One}
+use Rattle.texts.specs.declared.Said.the-variants.{One}
 use Rattle.exchange.specs.Orders.{Order, powerUp, command, clockStep, trigger, reply, timeUp, otherForm, taking, areFields, fieldsFrom, oneByte, anyWords, replyFrom, powerUpOrder, clockOrder, triggerOrder}
 use Rattle.exchange.specs.Exchange.{refusalReply, plainReply, commandReply, outcomeReply, replyTo, afterPowerUp, boardAfterOrder, Says, SaysWrittenBytes, Answers, AnswersInBytes}
 use Rattle.exchange.specs.declared.Answered.{Answered}

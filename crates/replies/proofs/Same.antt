@@ -1,7 +1,7 @@
 -- A turn of the loop that compares the data of two frames.
 -- Assumes nothing.
 use Prim.Native.Nat.{ℕ, suc, _-_, _+_, _<_}
-use mathlib.Core.Path.{_≡_, refl, ap, _∙_}
+use mathlib.Core.Path.{_≡_, refl, ap}
 use mathlib.Core.Bool.{Bool, true, false, _&&_}
 use mathlib.Core.List.{List}
 use native.Mathlib.Omega.{arith}

@@ -9,7 +9,6 @@ use Rattle.frames.proofs.Frames.{before-same}
 use Rattle.replies.specs.Replies.{carriedIn}
 use Rattle.replies.proofs.Sent.{good-sent}
 use Rattle.steps.specs.Steps.{heardIn}
-use Rattle.steps.specs.declared.Heard.{Heard}
 
 pub heard-before : (address number : ℕ) (w r : List ℕ) → heardIn (beforeCrc address number w) r ≡ heardIn (frameWith address number w) r
 unfolding heardIn

@@ -1,10 +1,5 @@
 -- `steps::hear_step` meets its contract: the frame's CRC says nothing of the reply. Assumes nothing.
-use mathlib.Core.Path.{_≡_}
-use lib.ListN.{take, length, length-take}
-use native.Mathlib.Omega.{arith}
-use lib.Seq.{take-length}
-use denote.Ref.{now}
-use Rattle.steps.specs.Steps.{stepFrame, heardIn}
+use Rattle.steps.specs.Steps.{stepFrame}
 use Rattle.steps.proofs.Before.{heard-before}
 use borrow.Author.Needs.{needs}
 use Rattle.steps.proofs.hear_step.Statement.{statement}
