@@ -109,7 +109,8 @@ module _ (c : ℕ) where
       go true h (refused n p) = e
       go false h a = e
 
-  chained-frames : (β : Board) (ss : List ServedItem) → Chained β ss → outstandingOn c (boardsAfter c ss) ≡ framesIn (only resultCrate c (results β (itemsOf ss)))
+  chained-frames : (β : Board) (ss : List ServedItem) → Chained β ss
+      → outstandingOn c (boardsAfter c ss) ≡ framesIn (only resultCrate c (results β (itemsOf ss)))
   unfolding results resultOf boardsAfter outstandingOn only framesIn
   chained-frames β [] p = refl
   chained-frames β (s ∷ ss) p =
