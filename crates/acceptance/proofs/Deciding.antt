@@ -6,26 +6,26 @@ use mathlib.Core.Bool.{false}
 use mathlib.Core.List.{List}
 use lib.ListN.{length}
 use Rattle.refusals.specs.Refusals.{numberOf, placeOf}
-use Rattle.refusals.specs.Tables.{given, lowest, onPaper}
+use Rattle.refusals.specs.Tables.{given, lowest, refusalMeaning}
 use Rattle.refusals.specs.declared.Refusal.{Refusal}
 use Rattle.refusals.proofs.Tables.{Clear, Exactly, exactly, clear-more, clear-front, clear-back, given-clear, given-same, clear-given, refused-more}
 use Rattle.commands.specs.Commands.{blockLength}
 use Rattle.commands.specs.declared.Command.{Command}
 use Rattle.command_reader.specs.Reading.{Taken, taken, readRules, commandIn, commandAnswer, usedOf}
 use Rattle.command_reader.proofs.Used.{used-fits}
-use Rattle.acceptance.specs.Acceptance.{notNow, stateRules, commandRules, answerOnPaper, decided, Decides}
-use Rattle.acceptance.specs.declared.Situation.{Situation}
+use Rattle.acceptance.specs.Acceptance.{notNow, stateRules, commandRules, answerMeaning, decided, Decides}
+use Rattle.acceptance.specs.declared.Status.{Status}
 use Rattle.acceptance.specs.declared.CommandAnswer.{CommandAnswer}
 use Rattle.acceptance.specs.declared.CommandAnswer.the-variants.{Refused}
 
-module _ (w : List ℕ) (s : Situation) where
+module _ (w : List ℕ) (s : Status) where
   -- 1 to 10, each exactly when its row applies
   pub command-exactly : Exactly (commandRules w s) (commandIn w) (decided w s)
   unfolding decided readRules
   command-exactly = exactly (commandRules w s) (commandIn w) tt
 
   -- the words refuse the command
-  pub decides-refused : (r : Refusal) → onPaper r ≡ commandAnswer w → Decides w s (record { answer = Refused r; used = 0 })
+  pub decides-refused : (r : Refusal) → refusalMeaning r ≡ commandAnswer w → Decides w s (record { answer = Refused r; used = 0 })
   unfolding decided commandAnswer
   decides-refused r e =
       record { answer = sym (refused-more (readRules w) (stateRules (commandIn w) s) _ (commandIn w) (numberOf r) (placeOf r) (sym e)); used = ap usedOf e }
@@ -42,7 +42,7 @@ module _ (w : List ℕ) (s : Situation) where
         clear-more (readRules w) (stateRules (commandIn w) s) (commandIn w) (given-clear (readRules w) _ (taken c n) e)
         ∙ ap (λ (d : Command). lowest (stateRules d s) d) named
 
-    pub decides-state : (a : CommandAnswer) → answerOnPaper a ≡ lowest (stateRules c s) c → Decides w s (record { answer = a; used = n })
+    pub decides-state : (a : CommandAnswer) → answerMeaning a ≡ lowest (stateRules c s) c → Decides w s (record { answer = a; used = n })
     decides-state a q = record { answer = q ∙ sym by-state; used = sym (ap usedOf e) }
 
   -- a command that is obeyed is the one that the words name, and no row applies

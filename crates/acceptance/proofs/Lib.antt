@@ -1,3 +1,3 @@
 -- Laws that belong to no one function.
 pub mod Deciding
-pub mod Apart
+pub mod Injective

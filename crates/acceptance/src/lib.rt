@@ -1,14 +1,14 @@
 // When a command is accepted: the first command of a stream's words, in a state that is idle, running or neither, fresh or not.
 ghost use mathlib.Core.Path.{_≡_};
 ghost use Rattle.refusals.specs.Tables.{lowest};
-ghost use Rattle.acceptance.specs.Acceptance.{notNow, notFresh, stateRules, answerOnPaper, Decides};
+ghost use Rattle.acceptance.specs.Acceptance.{notNow, notFresh, stateRules, answerMeaning, Decides};
 use command_reader::CommandRead;
 use command_reader::read_command;
 use commands::Command;
 use refusals::Refusal;
 
 // What a board's state is to a command.
-pub struct Situation {
+pub struct Status {
     pub idle: bool,
     pub running: bool,
     pub fresh: bool,
@@ -27,7 +27,7 @@ pub struct Decision {
 }
 
 // Whether a command is not accepted in this state.
-fn not_now(c: Command, s: Situation) -> bool
+fn not_now(c: Command, s: Status) -> bool
     ensures { λ r. ⌜ r ≡ notNow c s ⌝ }
 {
     match c {
@@ -41,7 +41,7 @@ fn not_now(c: Command, s: Situation) -> bool
 }
 
 // Whether a command is a start without fresh.
-fn not_fresh(c: Command, s: Situation) -> bool
+fn not_fresh(c: Command, s: Status) -> bool
     ensures { λ r. ⌜ r ≡ notFresh c s ⌝ }
 {
     match c {
@@ -55,8 +55,8 @@ fn not_fresh(c: Command, s: Situation) -> bool
 }
 
 // What a command gets whose words are right.
-fn accept(c: Command, s: Situation) -> CommandAnswer
-    ensures { λ r. ⌜ answerOnPaper r ≡ lowest (stateRules c s) c ⌝ }
+fn accept(c: Command, s: Status) -> CommandAnswer
+    ensures { λ r. ⌜ answerMeaning r ≡ lowest (stateRules c s) c ⌝ }
 {
     if not_now(c, s) {
         return CommandAnswer::Refused(Refusal::NotAcceptedNow);
@@ -68,7 +68,7 @@ fn accept(c: Command, s: Situation) -> CommandAnswer
 }
 
 // What the first command of the words gets. A command that its words refuse uses none of them, any other all of its own.
-pub fn decide(words: &[u16], s: Situation) -> Decision
+pub fn decide(words: &[u16], s: Status) -> Decision
     ensures { λ r. ⌜ Decides (now (words .entry)) s r ⌝ }
 {
     match read_command(words) {

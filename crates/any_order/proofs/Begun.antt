@@ -15,7 +15,7 @@ use Rattle.crate_pass.specs.declared.Crate.{Crate}
 use Rattle.four_crates.specs.FourCrates.{noCrate, inPass, begunAll}
 use Rattle.command_reader.specs.Reading as reading
 use Rattle.acceptance.proofs.Deciding.{obeyed-now, obeyed-read}
-use Rattle.board.specs.State.{crateAt, situationOf, withCrates}
+use Rattle.board.specs.State.{crateAt, statusOf, withCrates}
 use Rattle.board.specs.Commands.{written, pinged, afterCommand}
 use Rattle.board.specs.declared.Board.{Board}
 use Rattle.any_order.specs.Steps.{Step, step, steps, first}
@@ -42,7 +42,7 @@ base-with β g cs = refl
 
 -- the block that the reader hands back is the command's
 block-read : (β : Board) (w : List ℕ) → Accepted β (write w) → storedBlock β (write w) ≡ reading.blockOf w
-block-read β w e = rw (obeyed-read w (situationOf β) Write e)
+block-read β w e = rw (obeyed-read w (statusOf β) Write e)
 
 pub start-is : (β : Board) (g : Begin) → Accepted β g → startOf β g ≡ begunBoard β g (begunCrates β g)
 unfolding begunBoard written pinged
@@ -55,8 +55,8 @@ idle-still true pass e = absurd (let z : _≡_ {A = ℕ} 0 1 = cc in omega arith
 idle-still false pass e = refl
 
 pub still : (β : Board) (g : Begin) → Accepted β g → isRunning (β .run) ≡ false
-still β (write w) e = idle-still (isRunning (β .run)) (not (inPass (β .crates))) (obeyed-now w (situationOf β) Write e)
-still β (ping w) e = idle-still (isRunning (β .run)) (not (inPass (β .crates))) (obeyed-now w (situationOf β) Ping e)
+still β (write w) e = idle-still (isRunning (β .run)) (not (inPass (β .crates))) (obeyed-now w (statusOf β) Write e)
+still β (ping w) e = idle-still (isRunning (β .run)) (not (inPass (β .crates))) (obeyed-now w (statusOf β) Ping e)
 
 -- ---- each crate
 

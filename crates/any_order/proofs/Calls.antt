@@ -12,11 +12,11 @@ use Rattle.refusals.specs.Writing.{Wrote}
 use Rattle.refusals.specs.declared.Written.{Written}
 use Rattle.refusals.specs.declared.Written.the-variants.{Length, Refused}
 use Rattle.refusals.proofs.Tables.{given≢refused, given-same}
-use Rattle.crate_pass.specs.Crate.{replyOnPaper}
+use Rattle.crate_pass.specs.Crate.{replyMeaning}
 use Rattle.crate_pass.specs.declared.Outcome.{Outcome}
 use Rattle.board.specs.SlowControl.{frameAt, fetchRules}
 use Rattle.board.specs.declared.Board.{Board}
-use Rattle.board.specs.declared.Obedience.{Obedience}
+use Rattle.board.specs.declared.CommandResult.{CommandResult}
 use Rattle.board.specs.declared.Replied.{Replied}
 use Rattle.cells.specs.Order.{only, ordered}
 use Rattle.cells.proofs.Order.{map-ordered}
@@ -30,7 +30,7 @@ use Rattle.any_order.proofs.AnyOrder.{demand-3}
 
 -- ---- one item
 
-answer-is : (β : Board) (c : ℕ) (e : Event) (r : Replied) → RepliesTo β c e r → replyOnPaper (r .answer) ≡ answerTo β (c, e)
+answer-is : (β : Board) (c : ℕ) (e : Event) (r : Replied) → RepliesTo β c e r → replyMeaning (r .answer) ≡ answerTo β (c, e)
 answer-is β c (reply bytes) r p = p .answer
 answer-is β c timeUp r p = p .answer
 
@@ -114,18 +114,18 @@ module _ (c : ℕ) where
   unfolding results resultOf boardsAfter outstandingOn only framesIn
   chained-frames β [] p = refl
   chained-frames β (s ∷ ss) p =
-      one-more (s .item) (replyOnPaper (s .replied .answer)) (s .replied .board) (boardsAfter c ss) (results (s .replied .board) (itemsOf ss))
+      one-more (s .item) (replyMeaning (s .replied .answer)) (s .replied .board) (boardsAfter c ss) (results (s .replied .board) (itemsOf ss))
       (chained-frames (s .replied .board) ss (p .1))
       ∙ ap₂ (λ (a : Answer Outcome) (γ : Board). framesIn (only resultCrate c (resulting (s .item) a γ ∷ results γ (itemsOf ss))))
       (answer-is β (s .item .0) (s .item .1) (s .replied) (p .0)) (board-is β (s .item .0) (s .item .1) (s .replied) (p .0))
 
 -- ---- the begin
 
-accepted-by : (β : Board) (g : Begin) (r : Obedience) → BegunBy β g r → Accepted β g
+accepted-by : (β : Board) (g : Begin) (r : CommandResult) → BegunBy β g r → Accepted β g
 accepted-by β (write w) r b = sym (b .0 .answer) ∙ b .1
 accepted-by β (ping w) r b = sym (b .0 .answer) ∙ b .1
 
-returned-by : (β : Board) (g : Begin) (r : Obedience) → BegunBy β g r → r .board ≡ startOf β g
+returned-by : (β : Board) (g : Begin) (r : CommandResult) → BegunBy β g r → r .board ≡ startOf β g
 returned-by β (write w) r b = b .0 .board
 returned-by β (ping w) r b = b .0 .board
 
@@ -143,7 +143,7 @@ module _ (β : Board) (g : Begin) (returned : Board) (start : returned ≡ start
   board-of : lastBoard returned ss ≡ boardAtEnd β g (itemsOf ss)
   board-of = chained-final returned ss p ∙ ap (λ (γ : Board). final γ (itemsOf ss)) start
 
-pub demand-3-of-calls : (β : Board) (g : Begin) (r : Obedience) → BegunBy β g r → (one two : List ServedItem) → Chained (r .board) one → Chained (r .board) two
+pub demand-3-of-calls : (β : Board) (g : Begin) (r : CommandResult) → BegunBy β g r → (one two : List ServedItem) → Chained (r .board) one → Chained (r .board) two
     → itemsOf two ≡ inOrder (itemsOf one) → OfCalls β g (r .board) one two
 demand-3-of-calls β g r b one two p q e =
     let start : r .board ≡ startOf β g = returned-by β g r b in

@@ -4,8 +4,8 @@ use Prim.Native.Nat.{ℕ, _+_, _<_, _≤_}
 use mathlib.Core.Path.{_≡_, _∙_}
 use native.Mathlib.Omega.{arith}
 use lib.ListN.{length, length-set}
-use Rattle.steps.specs.declared.Heard.{Heard}
-use Rattle.crate_pass.specs.Crate.{nextBoard, placed, advanced, noted, marked, crateAfter}
+use Rattle.steps.specs.declared.Judged.{Judged}
+use Rattle.crate_pass.specs.Crate.{nextBoard, placed, advanced, noted, withRecord, crateAfter}
 use Rattle.crate_pass.proofs.After.{after-any}
 use Rattle.crate_pass.specs.declared.PassKind.{PassKind}
 use Rattle.crate_pass.specs.declared.Crate.{Crate}
@@ -29,17 +29,17 @@ fit-advanced kind w k b ten clear =
     record { code = first-code kind; low = omega arith; ten = ten; clear = λ j h. clear j (omega arith) }
 
 module _ (kind : PassKind) (w : ℕ) (k : Crate) (fit : Fit kind k) where
-  fit-onward : (h : Heard) → k .board < 10 → Fit kind (advanced kind w (noted k h))
+  fit-onward : (h : Judged) → k .board < 10 → Fit kind (advanced kind w (noted k h))
   unfolding noted
   fit-onward h b = fit-advanced kind w (noted k h) b (fit .ten) (λ j l. fit .clear j (omega arith))
 
-  fit-marked : k .board < 10 → Fit kind (advanced kind w (marked k))
-  unfolding marked
-  fit-marked b =
-      fit-advanced kind w (marked k) b (length-set (k .failed) (k .board) (k .code) ∙ fit .ten)
+  fit-record : k .board < 10 → Fit kind (advanced kind w (withRecord k))
+  unfolding withRecord
+  fit-record b =
+      fit-advanced kind w (withRecord k) b (length-set (k .failed) (k .board) (k .code) ∙ fit .ten)
       (none-after (k .failed) (k .board) (k .code) (rw (fit .ten) b) (nonzero (fit .code)) (fit .clear))
 
-  pub fit-kept : (h : Heard) → Fit kind (crateAfter kind w k h)
+  pub fit-kept : (h : Judged) → Fit kind (crateAfter kind w k h)
   unfolding placed noted
   fit-kept h =
       after-any kind w k h (Fit kind)
@@ -48,5 +48,5 @@ module _ (kind : PassKind) (w : ℕ) (k : Crate) (fit : Fit kind k) where
         next-step = λ b g l. record { code = next-code (fit .code) l; low = omega arith; ten = fit .ten; clear = fit .clear };
         next-board = λ b g l. fit-onward h b;
         again = λ b l. record { code = fit .code; low = omega arith; ten = fit .ten; clear = fit .clear };
-        failed = λ b l. fit-marked b;
+        failed = λ b l. fit-record b;
       })

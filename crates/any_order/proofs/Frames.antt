@@ -11,7 +11,7 @@ use borrow.Author.Tests.{ltb-true}
 use Rattle.crate_pass.specs.declared.PassKind.{PassKind}
 use Rattle.crate_pass.specs.declared.PassKind.the-variants.{Reprogramming, Ping}
 use Rattle.crate_pass.specs.declared.Outcome.the-variants.{Good, Again, BoardFailed}
-use Rattle.any_order.specs.Steps.{Step, isServed, boardSteps, stepsFrom, steps, servedFrom, Event, heard, Found, Pass, pass, begun, Result}
+use Rattle.any_order.specs.Steps.{Step, isServed, boardSteps, stepsFrom, steps, servedFrom, Event, judged, Found, Pass, pass, begun, Result}
 use Rattle.any_order.specs.Steps.{first, others, foundBy, says, reactTo, react}
 use Rattle.any_order.specs.AnyOrder.{Item, isAccepted, passEnd, passResults, framesIn, acceptedIn, mostFrames}
 
@@ -49,7 +49,7 @@ module _ (frame : Step → List ℕ) (most : ℕ) where
   -- what a step gives, by whether the reply was good, and whether there is another send
   abbrev pub byTests : Event → Pass → Step → List Step → Bool → Bool → Result × Pass
   byTests e p s ss t u =
-      cond t (says frame Good (pass ss 0 (p .failed) (foundBy s (p .tries) (heard (frame s) e) (p .boards))))
+      cond t (says frame Good (pass ss 0 (p .failed) (foundBy s (p .tries) (judged (frame s) e) (p .boards))))
       (cond u (says frame Again (pass (s ∷ ss) (p .tries + 1) (p .failed) (p .boards)))
       (says frame BoardFailed (pass (others (s .board) ss) 0 (p .failed ++ (s ∷ [])) (p .boards))))
 
@@ -57,10 +57,10 @@ module _ (frame : Step → List ℕ) (most : ℕ) where
       → Bound most (n + length (reactTo frame e p todo .0 .frames)) (reactTo frame e p todo .1)
   unfolding reactTo
   react-bound n e p [] q l h = record { low = l; count = rw q (omega arith) }
-  react-bound n e p (s ∷ ss) q l h = go (heard (frame s) e .good) (ltb (p .tries) 2) refl
+  react-bound n e p (s ∷ ss) q l h = go (judged (frame s) e .good) (ltb (p .tries) 2) refl
     where
       go : (t u : Bool) → ltb (p .tries) 2 ≡ u → Bound most (n + length (byTests e p s ss t u .0 .frames)) (byTests e p s ss t u .1)
-      go true u x = moved-bound n (length ss) (p .failed) (foundBy s (p .tries) (heard (frame s) e) (p .boards)) ss (omega arith) (omega arith)
+      go true u x = moved-bound n (length ss) (p .failed) (foundBy s (p .tries) (judged (frame s) e) (p .boards)) ss (omega arith) (omega arith)
       go false true x = let k : p .tries < 2 = ltb-true _ _ x in record { low = omega arith; count = omega arith }
       go false false x =
           moved-bound n (length ss) (p .failed ++ (s ∷ [])) (p .boards) (others (s .board) ss) (omega arith) (others-length (s .board) ss)
@@ -121,7 +121,7 @@ accepted-once : (frame : Step → List ℕ) (e : Event) (p : Pass) (todo : List 
     ≡ cond (isAccepted (reactTo frame e p todo .0 .answer)) 1 0 + length (first (reactTo frame e p todo .1 .todo))
 unfolding reactTo
 accepted-once frame e p [] q = rw q (omega arith)
-accepted-once frame e p (s ∷ ss) q = go (heard (frame s) e .good) (ltb (p .tries) 2)
+accepted-once frame e p (s ∷ ss) q = go (judged (frame s) e .good) (ltb (p .tries) 2)
   where
     go : (t u : Bool) → 1 + length (byTests frame 0 e p s ss t u .0 .frames)
         ≡ cond (isAccepted (byTests frame 0 e p s ss t u .0 .answer)) 1 0 + length (first (byTests frame 0 e p s ss t u .1 .todo))

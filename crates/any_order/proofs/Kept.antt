@@ -10,7 +10,7 @@ use lib.Seq.{getD-set-same, getD-set-other}
 use lib.Dec.{ltb, eqb}
 use borrow.Author.Tests.{ltb-true, ltb-false, eq-eqb, ne-eqb}
 use Rattle.ftu_list.specs.declared.Entry.{Entry}
-use Rattle.steps.specs.declared.Heard.{Heard}
+use Rattle.steps.specs.declared.Judged.{Judged}
 use Rattle.crate_pass.specs.Crate.{entriesIn, callsAt, notedIn, noted}
 use Rattle.crate_pass.proofs.Entries.{entry, entries-set}
 use Rattle.crate_pass.specs.declared.PassKind.{PassKind}
@@ -140,7 +140,7 @@ found-entry : (tries dna errors : ℕ) → foundIn (entry dna (tries + 1) errors
 found-entry tries dna errors = let k : tries + 1 ≡ 0 → ⊥ = λ q. omega arith in rw (ne-eqb _ _ k)
 
 -- a note in the list is what the steps find
-noted-ping : (k : Crate) (h : Heard) → k .tries ≤ 2 → k .code ≡ 4
+noted-ping : (k : Crate) (h : Judged) → k .tries ≤ 2 → k .code ≡ 4
     → map foundIn (entriesIn (noted k h)) ≡ foundBy (step (k .board) (k .code)) (k .tries) h (map foundIn (entriesIn k))
 unfolding noted notedIn foundBy
 noted-ping k h t e =
@@ -150,11 +150,11 @@ noted-ping k h t e =
     ∙ ap (set (map foundIn (entriesIn k)) (k .board))
     (ap (λ (n : ℕ). foundIn (entry (h .dna) n (h .«crc_errors»))) (calls-are (k .tries) t) ∙ found-entry (k .tries) (h .dna) (h .«crc_errors»)))
 
-found-other : (s : Step) (tries : ℕ) (h : Heard) (boards : List Found) → (s .code ≡ 4 → ⊥) → foundBy s tries h boards ≡ boards
+found-other : (s : Step) (tries : ℕ) (h : Judged) (boards : List Found) → (s .code ≡ 4 → ⊥) → foundBy s tries h boards ≡ boards
 unfolding foundBy
 found-other s tries h boards e = rw (ne-eqb _ _ e)
 
-pub boards-noted : {kind : PassKind} {code : ℕ} → Code kind code → (k : Crate) (h : Heard) → k .code ≡ code → k .tries ≤ 2
+pub boards-noted : {kind : PassKind} {code : ℕ} → Code kind code → (k : Crate) (h : Judged) → k .code ≡ code → k .tries ≤ 2
     → boardsOf kind (entriesIn (noted k h)) ≡ foundBy (step (k .board) (k .code)) (k .tries) h (boardsOf kind (entriesIn k))
 boards-noted one k h e t = sym (found-other (step (k .board) (k .code)) (k .tries) h (replicate 10 nothing) (λ q. omega arith))
 boards-noted two k h e t = sym (found-other (step (k .board) (k .code)) (k .tries) h (replicate 10 nothing) (λ q. omega arith))

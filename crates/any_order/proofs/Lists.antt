@@ -13,11 +13,11 @@ use Rattle.configuration.specs.Configuration.{addressOf}
 use Rattle.ftu_list.specs.List.{entryWords, entryWordsFrom, answered, listHead, listBody}
 use Rattle.ftu_list.specs.declared.Entry.{Entry}
 use Rattle.ftu_list.specs.declared.FtuList.{FtuList}
-use Rattle.steps.specs.declared.Heard.{Heard}
+use Rattle.steps.specs.declared.Judged.{Judged}
 use Rattle.crate_pass.specs.Crate.{silent, entriesIn}
 use Rattle.crate_pass.specs.declared.Crate.{Crate}
 use Rattle.four_crates.specs.FourCrates.{crateOf, entryAt, entriesFrom, entriesOf}
-use Rattle.any_order.specs.Steps.{Step, Event, heard, Found, nothing, found, sixWords, wordsFrom, howMany, Pass, foundBy, reactTo, react}
+use Rattle.any_order.specs.Steps.{Step, Event, judged, Found, nothing, found, sixWords, wordsFrom, howMany, Pass, foundBy, reactTo, react}
 use Rattle.any_order.specs.AnyOrder.{Item, passEnd, ofFour}
 use Rattle.any_order.proofs.Kept.{foundIn}
 use Rattle.any_order.proofs.Frames.{byTests}
@@ -90,7 +90,7 @@ words-append k (x ∷ xs) ys =
 
 -- ---- a pass keeps ten boards
 
-length-found : (s : Step) (tries : ℕ) (h : Heard) (boards : List Found) → length (foundBy s tries h boards) ≡ length boards
+length-found : (s : Step) (tries : ℕ) (h : Judged) (boards : List Found) → length (foundBy s tries h boards) ≡ length boards
 unfolding foundBy
 length-found s tries h boards = go (eqb (s .code) 4)
   where
@@ -101,10 +101,10 @@ length-found s tries h boards = go (eqb (s .code) 4)
 length-once : (frame : Step → List ℕ) (e : Event) (p : Pass) (todo : List Step) → length (reactTo frame e p todo .1 .boards) ≡ length (p .boards)
 unfolding reactTo
 length-once frame e p [] = refl
-length-once frame e p (s ∷ ss) = go (heard (frame s) e .good) (ltb (p .tries) 2)
+length-once frame e p (s ∷ ss) = go (judged (frame s) e .good) (ltb (p .tries) 2)
   where
     go : (t u : Bool) → length (byTests frame 0 e p s ss t u .1 .boards) ≡ length (p .boards)
-    go true u = length-found s (p .tries) (heard (frame s) e) (p .boards)
+    go true u = length-found s (p .tries) (judged (frame s) e) (p .boards)
     go false true = refl
     go false false = refl
 

@@ -11,8 +11,8 @@ use borrow.Author.Tests.{lt-ltb}
 use Rattle.refusals.specs.Tables.{given, refused}
 use Rattle.configuration.specs.Configuration.{activeWord}
 use Rattle.steps.specs.Steps.{stepFrame}
-use Rattle.steps.specs.declared.Heard.{Heard}
-use Rattle.crate_pass.specs.Crate.{entriesIn, countedFrame, placed, advanced, stepped, noted, marked, Moved, told, passed, missed, moved}
+use Rattle.steps.specs.declared.Judged.{Judged}
+use Rattle.crate_pass.specs.Crate.{entriesIn, countedFrame, placed, advanced, stepped, noted, withRecord, Moved, withOutcome, passed, missed, moved}
 use Rattle.crate_pass.specs.Crate.{crateAnswer, crateAfter}
 use Rattle.crate_pass.proofs.Entries.{entries-stay}
 use Rattle.crate_pass.specs.declared.PassKind.{PassKind}
@@ -21,7 +21,7 @@ use Rattle.crate_pass.specs.declared.Outcome.the-variants.{Again, BoardFailed}
 use Rattle.crate_pass.specs.declared.Crate.{Crate}
 use Rattle.four_crates.specs.FourCrates.{noCrate}
 use Rattle.cells.proofs.Cells.{endAlone, outAlone}
-use Rattle.any_order.specs.Steps.{Step, step, steps, Event, heard, Pass, Result, refusal, react}
+use Rattle.any_order.specs.Steps.{Step, step, steps, Event, judged, Pass, Result, refusal, react}
 use Rattle.any_order.specs.AnyOrder.{Item, ItemResult, framesIn, passResults, passEnd, stepOf}
 use Rattle.any_order.proofs.Walks.{Fit, view, resultFor, walks}
 use Rattle.any_order.proofs.Places.{Code, one, two, three}
@@ -55,19 +55,19 @@ module _ (kind : PassKind) (w : ℕ) where
       go false = sent-advanced k
 
   sent-missed : (k : Crate) → Counted (k .sent) (missed kind w k .state)
-  unfolding missed placed marked
+  unfolding missed placed withRecord
   sent-missed k = go (ltb (k .tries) 2)
     where
       go : (t : Bool) → Counted (k .sent)
-          (cond {A = Moved} t (told Again (placed k (k .board) (k .code) (k .tries + 1))) (told BoardFailed (advanced kind w (marked k))) .state)
+          (cond {A = Moved} t (withOutcome Again (placed k (k .board) (k .code) (k .tries + 1))) (withOutcome BoardFailed (advanced kind w (withRecord k))) .state)
       go true = refl
-      go false = sent-advanced (marked k)
+      go false = sent-advanced (withRecord k)
 
-  sent-passed : (k : Crate) (h : Heard) → Counted (k .sent) (passed kind w k h .state)
+  sent-passed : (k : Crate) (h : Judged) → Counted (k .sent) (passed kind w k h .state)
   unfolding passed noted
   sent-passed k h = sent-stepped (noted k h)
 
-  sent-moved : (k : Crate) (h : Heard) → Counted (k .sent) (moved kind w k h .state)
+  sent-moved : (k : Crate) (h : Judged) → Counted (k .sent) (moved kind w k h .state)
   sent-moved k h = go (h .good)
     where
       go : (t : Bool) → Counted (k .sent) (cond {A = Moved} t (passed kind w k h) (missed kind w k) .state)
@@ -84,10 +84,10 @@ counted-one frame k n r = go (ltb (k .board) 10) (ltb n 65535) (lt-ltb _ _ r)
     go false u e = omega arith
 
 -- a reply or a time-up that is served sends a frame where one is then outstanding
-abbrev resultOn : (Step → List ℕ) → PassKind → ℕ → Crate → Heard → Result
+abbrev resultOn : (Step → List ℕ) → PassKind → ℕ → Crate → Judged → Result
 resultOn frame kind w k h = resultFor frame (crateAnswer kind w k h) (crateAfter kind w k h)
 
-sent-after : (frame : Step → List ℕ) (kind : PassKind) (w : ℕ) (k : Crate) (h : Heard) → k .sent < 65535
+sent-after : (frame : Step → List ℕ) (kind : PassKind) (w : ℕ) (k : Crate) (h : Judged) → k .sent < 65535
     → crateAfter kind w k h .sent ≡ k .sent + length (resultOn frame kind w k h .frames)
 unfolding crateAnswer crateAfter
 sent-after frame kind w k h r = go (leb 10 (k .board))
@@ -123,12 +123,12 @@ module _ (kind : PassKind) (block : List ℕ) (c : ℕ) where
 
   step-fit : (k : Crate) (e : Event) → Fit kind k → Fit kind (next k e)
   unfolding crateStep
-  step-fit k e f = fit-kept kind word k f (heard (stepFrame block c (k .board) (k .code)) e)
+  step-fit k e f = fit-kept kind word k f (judged (stepFrame block c (k .board) (k .code)) e)
 
   step-sent : (k : Crate) (e : Event) → Runs kind word k → next k e .sent ≡ k .sent + length (result k e .frames)
   unfolding crateStep
   step-sent k e r =
-      sent-after frame kind word k (heard (stepFrame block c (k .board) (k .code)) e)
+      sent-after frame kind word k (judged (stepFrame block c (k .board) (k .code)) e)
       (omega (arith, bound-sent (length (steps kind word)) (k .sent) (view kind word k) (r .bound), steps-most kind word))
 
   pub step-runs : (k : Crate) (e : Event) → Runs kind word k → Runs kind word (next k e)
@@ -184,7 +184,7 @@ no-ping three q = omega arith
 module _ (block : List ℕ) (c : ℕ) where
   step-list : (k : Crate) (e : Event) → Fit Reprogramming k → entriesIn (crateStep Reprogramming block c k e .1) ≡ entriesIn k
   unfolding crateStep
-  step-list k e f = entries-stay Reprogramming (activeWord block c) k (heard (stepFrame block c (k .board) (k .code)) e) (no-ping (f .code))
+  step-list k e f = entries-stay Reprogramming (activeWord block c) k (judged (stepFrame block c (k .board) (k .code)) e) (no-ping (f .code))
 
   pub run-list : (k : Crate) (xs : List Item) → Fit Reprogramming k
       → entriesIn (endAlone noCrate (crateStep Reprogramming block) (refusal 11) c k xs) ≡ entriesIn k

@@ -9,7 +9,7 @@ use lib.Seq.{getD-set-same}
 use Rattle.refusals.specs.Tables.{Answer}
 use Rattle.configuration.specs.Configuration.{activeWord}
 use Rattle.steps.specs.Steps.{stepFrame}
-use Rattle.steps.specs.declared.Heard.{Heard}
+use Rattle.steps.specs.declared.Judged.{Judged}
 use Rattle.crate_pass.specs.Crate.{crateAnswer, crateAfter}
 use Rattle.crate_pass.specs.declared.PassKind.{PassKind}
 use Rattle.crate_pass.specs.declared.Outcome.{Outcome}
@@ -18,8 +18,8 @@ use Rattle.four_crates.specs.FourCrates.{noCrate}
 use Rattle.board.specs.State.{withCrates}
 use Rattle.board.specs.SlowControl.{frameAt}
 use Rattle.board.specs.declared.Board.{Board}
-use Rattle.any_order.specs.Steps.{Event, heard, Result, refusal}
-use Rattle.any_order.specs.AnyOrder.{Item, ItemResult, itemCrate, afterItem, heardOn, resultOf, fetched}
+use Rattle.any_order.specs.Steps.{Event, judged, Result, refusal}
+use Rattle.any_order.specs.AnyOrder.{Item, ItemResult, itemCrate, afterItem, judgedOn, resultOf, fetched}
 use Rattle.any_order.specs.AnyOrder.{sentAfter, results, final, stepOf}
 use Rattle.cells.proofs.Order.{Side, low, high, side}
 use Rattle.cells.proofs.Cells.{one, end, out, one-high, one-low, one-length}
@@ -31,9 +31,9 @@ use Rattle.any_order.proofs.Fetch.{frameIn, fetched-step}
 unfoldable pub crateStep : PassKind → List ℕ → ℕ → Crate → Event → Result × Crate
 crateStep kind block c k e = (
   resultFor (frameIn block c)
-      (crateAnswer kind (activeWord block c) k (heard (stepFrame block c (k .board) (k .code)) e))
-      (crateAfter kind (activeWord block c) k (heard (stepFrame block c (k .board) (k .code)) e)),
-  crateAfter kind (activeWord block c) k (heard (stepFrame block c (k .board) (k .code)) e),
+      (crateAnswer kind (activeWord block c) k (judged (stepFrame block c (k .board) (k .code)) e))
+      (crateAfter kind (activeWord block c) k (judged (stepFrame block c (k .board) (k .code)) e)),
+  crateAfter kind (activeWord block c) k (judged (stepFrame block c (k .board) (k .code)) e),
 )
 
 -- ---- the board's crates are cells
@@ -57,15 +57,15 @@ module _ (β : Board) where
     where
       go : Side itemCrate (length cs) x → afterItem (withCrates β cs) x ≡ withCrates β (oneCell cs x .1)
       go (high h) =
-          board-high (withCrates β cs) (x .0) (heardOn (withCrates β cs) x) (omega arith)
+          board-high (withCrates β cs) (x .0) (judgedOn (withCrates β cs) x) (omega arith)
           ∙ ap (λ (p : Result × List Crate). withCrates β (p .1)) (sym (one-high noCrate step (refusal 11) cs x h))
       go (low h) =
-          board-low (withCrates β cs) (x .0) (heardOn (withCrates β cs) x) (omega arith)
+          board-low (withCrates β cs) (x .0) (judgedOn (withCrates β cs) x) (omega arith)
           ∙ ap (λ (p : Result × List Crate). withCrates β (p .1)) (sym (one-low noCrate step (refusal 11) cs x h))
 
   out-high : (cs : List Crate) (x : Item) → 4 ≤ x .0 → resultOf (withCrates β cs) x ≡ refusal 11
   unfolding resultOf
-  out-high cs x h = rw (answer-high (withCrates β cs) (x .0) (heardOn (withCrates β cs) x) h)
+  out-high cs x h = rw (answer-high (withCrates β cs) (x .0) (judgedOn (withCrates β cs) x) h)
 
   fetched-after : (cs : List Crate) (i : ℕ) (k : Crate) → i < 4 → i < length cs
       → fetched (withCrates β (set cs i k)) i ≡ map (frameIn (β .block) i) (stepOf k)
@@ -77,7 +77,7 @@ module _ (β : Board) where
       → resultOf (withCrates β cs) x ≡ step (x .0) (getD cs (x .0) noCrate) (x .1) .0
   unfolding resultOf withCrates crateStep frameAt
   out-low cs x h l =
-      let u : Heard = heardOn (withCrates β cs) x in
+      let u : Judged = judgedOn (withCrates β cs) x in
       ap₂ (λ (a : Answer Outcome) (f : List (List ℕ)). record { answer = a; frames = sentAfter a f })
       (answer-low (withCrates β cs) (x .0) u (omega arith))
       (ap (λ b. fetched b (x .0)) (board-low (withCrates β cs) (x .0) u (omega arith)) ∙ fetched-after cs (x .0) _ h l)

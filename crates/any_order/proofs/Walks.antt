@@ -9,15 +9,15 @@ use lib.ListN.{length, getD, set, replicate}
 use lib.Dec.{ltb}
 use borrow.Author.Tests.{ltb-true, ltb-false, lt-ltb, le-ltb, le-leb, lt-leb}
 use Rattle.refusals.specs.Tables.{Answer, given}
-use Rattle.steps.specs.declared.Heard.{Heard}
+use Rattle.steps.specs.declared.Judged.{Judged}
 use Rattle.crate_pass.specs.Crate.{nextBoard, firstCode, asEntries, entriesIn, isDone, begunCrate}
-use Rattle.crate_pass.specs.Crate.{placed, advanced, stepped, noted, marked, Moved, told, passed, missed, moved, crateAnswer, crateAfter}
+use Rattle.crate_pass.specs.Crate.{placed, advanced, stepped, noted, withRecord, Moved, withOutcome, passed, missed, moved, crateAnswer, crateAfter}
 use Rattle.crate_pass.specs.declared.PassKind.{PassKind}
 use Rattle.crate_pass.specs.declared.PassKind.the-variants.{Reprogramming, Ping}
 use Rattle.crate_pass.specs.declared.Outcome.{Outcome}
 use Rattle.crate_pass.specs.declared.Outcome.the-variants.{Good, Again, BoardFailed}
 use Rattle.crate_pass.specs.declared.Crate.{Crate}
-use Rattle.any_order.specs.Steps.{Step, step, stepsFrom, steps, Event, heard, Found, nothing, Pass, pass, begun, Result, refusal}
+use Rattle.any_order.specs.Steps.{Step, step, stepsFrom, steps, Event, judged, Found, nothing, Pass, pass, begun, Result, refusal}
 use Rattle.any_order.specs.Steps.{first, none, others, foundBy, says, reactTo, react}
 use Rattle.any_order.specs.AnyOrder.{sentAfter, stepOf}
 use Rattle.any_order.proofs.Places.{Code, one, two, three, four, first-code, later, todoAt, todo-here, todo-done, next-board-todo, begun-todo}
@@ -125,12 +125,12 @@ failedPass kind w k =
     (failedSteps (k .failed) 10 ++ (step (k .board) (k .code) ∷ [])) (boardsOf kind (entriesIn k))
 
 view-marked : (kind : PassKind) (w : ℕ) (k : Crate) → k .board < 10
-    → view kind w (advanced kind w (marked k))
+    → view kind w (advanced kind w (withRecord k))
     ≡ pass (stepsFrom kind w (10 - (k .board + 1)) (k .board + 1)) 0 (failedSteps (set (k .failed) (k .board) (k .code)) 10) (boardsOf kind (entriesIn k))
-unfolding marked
-view-marked kind w k h = view-advanced kind w (marked k) h
+unfolding withRecord
+view-marked kind w k h = view-advanced kind w (withRecord k) h
 
-view-failed : (kind : PassKind) (w : ℕ) (k : Crate) → k .board < 10 → Fit kind k → view kind w (advanced kind w (marked k)) ≡ failedPass kind w k
+view-failed : (kind : PassKind) (w : ℕ) (k : Crate) → k .board < 10 → Fit kind k → view kind w (advanced kind w (withRecord k)) ≡ failedPass kind w k
 view-failed kind w k h fit =
     view-marked kind w k h
     ∙ ap₂ (λ (todo failed : List Step). pass todo 0 failed (boardsOf kind (entriesIn k)))
@@ -141,19 +141,19 @@ view-failed kind w k h fit =
 
 module _ (frame : Step → List ℕ) (e : Event) (p : Pass) (s : Step) (ss : List Step) where
   -- "A good reply moves to the next step"
-  react-good : heard (frame s) e .good ≡ true
-      → reactTo frame e p (s ∷ ss) ≡ says frame Good (pass ss 0 (p .failed) (foundBy s (p .tries) (heard (frame s) e) (p .boards)))
+  react-good : judged (frame s) e .good ≡ true
+      → reactTo frame e p (s ∷ ss) ≡ says frame Good (pass ss 0 (p .failed) (foundBy s (p .tries) (judged (frame s) e) (p .boards)))
   unfolding reactTo
   react-good g = simp g
 
   -- "after the third send of a step fails, the board gets a failure record and its other steps are dropped"
-  react-failed : heard (frame s) e .good ≡ false → 2 ≤ p .tries
+  react-failed : judged (frame s) e .good ≡ false → 2 ≤ p .tries
       → reactTo frame e p (s ∷ ss) ≡ says frame BoardFailed (pass (others (s .board) ss) 0 (p .failed ++ (s ∷ [])) (p .boards))
   unfolding reactTo
   react-failed g t = simp (g, le-ltb _ _ t)
 
   -- "A bad reply, or a time-up, sends again"
-  react-again : heard (frame s) e .good ≡ false → p .tries < 2
+  react-again : judged (frame s) e .good ≡ false → p .tries < 2
       → reactTo frame e p (s ∷ ss) ≡ says frame Again (pass (s ∷ ss) (p .tries + 1) (p .failed) (p .boards))
   unfolding reactTo
   react-again g t = simp (g, lt-ltb _ _ t)
@@ -173,15 +173,15 @@ module _ (frame : Step → List ℕ) (kind : PassKind) (w : ℕ) where
   abbrev gives : Moved → Result × Pass
   gives m = (resultFor frame (given (m .outcome)) (m .state), view kind w (m .state))
 
-  gives-told : (outcome : Bool → Outcome) (k : Crate) → gives (told outcome k) ≡ says frame outcome (view kind w k)
-  gives-told outcome k = rw (view-none kind w k, view-first kind w k)
+  gives-outcome : (outcome : Bool → Outcome) (k : Crate) → gives (withOutcome outcome k) ≡ says frame outcome (view kind w k)
+  gives-outcome outcome k = rw (view-none kind w k, view-first kind w k)
 
   -- a note in the list leaves the place alone
-  abbrev passedPass : Crate → Heard → Pass
+  abbrev passedPass : Crate → Judged → Pass
   passedPass k h =
       pass (later kind w (k .board) (k .code)) 0 (failedSteps (k .failed) 10) (foundBy (step (k .board) (k .code)) (k .tries) h (boardsOf kind (entriesIn k)))
 
-  view-noted : (k : Crate) (h : Heard) → k .board < 10 → Fit kind k → view kind w (stepped kind w (noted k h)) ≡ passedPass k h
+  view-noted : (k : Crate) (h : Judged) → k .board < 10 → Fit kind k → view kind w (stepped kind w (noted k h)) ≡ passedPass k h
   unfolding noted
   view-noted k h b fit =
       view-stepped (fit .code) w (noted k h) refl b
@@ -189,9 +189,9 @@ module _ (frame : Step → List ℕ) (kind : PassKind) (w : ℕ) where
       (boards-noted (fit .code) k h refl (fit .low))
 
   -- a good reply
-  walks-passed : (k : Crate) (h : Heard) → k .board < 10 → Fit kind k → gives (passed kind w k h) ≡ says frame Good (passedPass k h)
+  walks-passed : (k : Crate) (h : Judged) → k .board < 10 → Fit kind k → gives (passed kind w k h) ≡ says frame Good (passedPass k h)
   unfolding passed
-  walks-passed k h b fit = gives-told Good (stepped kind w (noted k h)) ∙ ap (says frame Good) (view-noted k h b fit)
+  walks-passed k h b fit = gives-outcome Good (stepped kind w (noted k h)) ∙ ap (says frame Good) (view-noted k h b fit)
 
   -- a first or a second one that is not good, and a third
   abbrev againPass : Crate → Pass
@@ -199,24 +199,24 @@ module _ (frame : Step → List ℕ) (kind : PassKind) (w : ℕ) where
 
   walks-again : (k : Crate) → k .tries < 2 → gives (missed kind w k) ≡ says frame Again (againPass k)
   unfolding missed
-  walks-again k t = rw (lt-ltb _ _ t) (gives-told Again (placed k (k .board) (k .code) (k .tries + 1)) ∙ ap (says frame Again) (view-again kind w k))
+  walks-again k t = rw (lt-ltb _ _ t) (gives-outcome Again (placed k (k .board) (k .code) (k .tries + 1)) ∙ ap (says frame Again) (view-again kind w k))
 
   walks-failed : (k : Crate) → k .board < 10 → 2 ≤ k .tries → Fit kind k → gives (missed kind w k) ≡ says frame BoardFailed (failedPass kind w k)
   unfolding missed
-  walks-failed k b t fit = rw (le-ltb _ _ t) (gives-told BoardFailed (advanced kind w (marked k)) ∙ ap (says frame BoardFailed) (view-failed kind w k b fit))
+  walks-failed k b t fit = rw (le-ltb _ _ t) (gives-outcome BoardFailed (advanced kind w (withRecord k)) ∙ ap (says frame BoardFailed) (view-failed kind w k b fit))
 
-  moved-good : (k : Crate) (h : Heard) → h .good ≡ true → moved kind w k h ≡ passed kind w k h
+  moved-good : (k : Crate) (h : Judged) → h .good ≡ true → moved kind w k h ≡ passed kind w k h
   moved-good k h g = rw g
 
-  moved-bad : (k : Crate) (h : Heard) → h .good ≡ false → moved kind w k h ≡ missed kind w k
+  moved-bad : (k : Crate) (h : Judged) → h .good ≡ false → moved kind w k h ≡ missed kind w k
   moved-bad k h g = rw g
 
-  -- the outstanding step, and what is heard on it
+  -- the outstanding step, and an event judged against it
   abbrev outstanding : Crate → Step
   outstanding k = step (k .board) (k .code)
 
-  abbrev heardBy : Crate → Event → Heard
-  heardBy k e = heard (frame (outstanding k)) e
+  abbrev judgedBy : Crate → Event → Judged
+  judgedBy k e = judged (frame (outstanding k)) e
 
   -- what the steps give for it
   abbrev reacts : Crate → Event → Result × Pass
@@ -226,34 +226,34 @@ module _ (frame : Step → List ℕ) (kind : PassKind) (w : ℕ) where
   unfolding view
   view-here k b = todo-here kind w (k .board) (k .code) b
 
-  walks-moved : (k : Crate) (e : Event) → k .board < 10 → Fit kind k → gives (moved kind w k (heardBy k e)) ≡ reacts k e
+  walks-moved : (k : Crate) (e : Event) → k .board < 10 → Fit kind k → gives (moved kind w k (judgedBy k e)) ≡ reacts k e
   unfolding view
-  walks-moved k e b fit = go (heardBy k e .good) (ltb (k .tries) 2) refl refl
+  walks-moved k e b fit = go (judgedBy k e .good) (ltb (k .tries) 2) refl refl
     where
-      go : (t u : Bool) → heardBy k e .good ≡ t → ltb (k .tries) 2 ≡ u → gives (moved kind w k (heardBy k e)) ≡ reacts k e
+      go : (t u : Bool) → judgedBy k e .good ≡ t → ltb (k .tries) 2 ≡ u → gives (moved kind w k (judgedBy k e)) ≡ reacts k e
       go true u g x =
-          ap gives (moved-good k (heardBy k e) g)
-          ∙ walks-passed k (heardBy k e) b fit
+          ap gives (moved-good k (judgedBy k e) g)
+          ∙ walks-passed k (judgedBy k e) b fit
           ∙ sym (react-good frame e (view kind w k) (outstanding k) (later kind w (k .board) (k .code)) g)
       go false true g x =
-          ap gives (moved-bad k (heardBy k e) g)
+          ap gives (moved-bad k (judgedBy k e) g)
           ∙ walks-again k (ltb-true _ _ x)
           ∙ ap (λ (todo : List Step). says frame Again (pass todo (k .tries + 1) (failedSteps (k .failed) 10) (boardsOf kind (entriesIn k)))) (view-here k b)
           ∙ sym (react-again frame e (view kind w k) (outstanding k) (later kind w (k .board) (k .code)) g (ltb-true _ _ x))
       go false false g x =
-          ap gives (moved-bad k (heardBy k e) g)
+          ap gives (moved-bad k (judgedBy k e) g)
           ∙ walks-failed k b (ltb-false _ _ x) fit
           ∙ sym (react-failed frame e (view kind w k) (outstanding k) (later kind w (k .board) (k .code)) g (ltb-false _ _ x))
 
-  -- what a crate gives for what is heard, done or not, and the pass that it then stands for
-  abbrev servesIt : Crate → Heard → Result × Pass
+  -- what a crate gives for a judged event, done or not, and the pass that it then stands for
+  abbrev servesIt : Crate → Judged → Result × Pass
   servesIt k h = (resultFor frame (crateAnswer kind w k h) (crateAfter kind w k h), view kind w (crateAfter kind w k h))
 
-  serves-here : (k : Crate) (h : Heard) → k .board < 10 → servesIt k h ≡ gives (moved kind w k h)
+  serves-here : (k : Crate) (h : Judged) → k .board < 10 → servesIt k h ≡ gives (moved kind w k h)
   unfolding crateAnswer crateAfter
   serves-here k h b = rw (lt-leb _ _ b)
 
-  serves-done : (k : Crate) (h : Heard) → 10 ≤ k .board → servesIt k h ≡ (refusal 12, view kind w k)
+  serves-done : (k : Crate) (h : Judged) → 10 ≤ k .board → servesIt k h ≡ (refusal 12, view kind w k)
   unfolding crateAnswer crateAfter
   serves-done k h b = rw (le-leb _ _ b)
 
@@ -261,14 +261,14 @@ module _ (frame : Step → List ℕ) (kind : PassKind) (w : ℕ) where
   unfolding view
   react-view k e = refl
 
-  pub walks : (k : Crate) (e : Event) → Fit kind k → servesIt k (heardBy k e) ≡ react frame e (view kind w k)
+  pub walks : (k : Crate) (e : Event) → Fit kind k → servesIt k (judgedBy k e) ≡ react frame e (view kind w k)
   walks k e fit = go (place (k .board))
     where
-      go : Place (k .board) → servesIt k (heardBy k e) ≡ react frame e (view kind w k)
+      go : Place (k .board) → servesIt k (judgedBy k e) ≡ react frame e (view kind w k)
       go (at b) =
-          serves-here k (heardBy k e) b
+          serves-here k (judgedBy k e) b
           ∙ walks-moved k e b fit
           ∙ sym (react-view k e ∙ ap (reactTo frame e (view kind w k)) (todo-here kind w (k .board) (k .code) b))
       go (past b) =
-          serves-done k (heardBy k e) b
+          serves-done k (judgedBy k e) b
           ∙ sym (react-view k e ∙ ap (reactTo frame e (view kind w k)) (todo-done kind w (k .board) (k .code) b) ∙ react-none frame e (view kind w k))

@@ -12,7 +12,7 @@ use Rattle.commands.specs.declared.Command.the-variants.{Write, Ping}
 use Rattle.blocks.specs.Blocks.{failureBody, WroteBlock}
 use Rattle.ftu_list.specs.List.{listBody}
 use Rattle.steps.specs.Steps.{stepFrame}
-use Rattle.steps.specs.declared.Heard.{Heard}
+use Rattle.steps.specs.declared.Judged.{Judged}
 use Rattle.run.specs.Run.{refreshed}
 use Rattle.run.specs.declared.Run.{Run}
 use Rattle.crate_pass.specs.declared.PassKind.{PassKind}
@@ -26,7 +26,7 @@ use Rattle.board.specs.SlowControl.{frameAt, fetchRules, replyAnswer, boardRepl
 use Rattle.board.specs.SentOut.{headerOf, listOf, failedFrame, SendsList, SendsFailure}
 use Rattle.board.specs.declared.Board.{Board}
 use Rattle.cells.specs.Order.{only, from, ordered}
-use Rattle.any_order.specs.Steps.{Step, step, steps, servedFrom, Event, heard, wordsFrom, howMany}
+use Rattle.any_order.specs.Steps.{Step, step, steps, servedFrom, Event, judged, wordsFrom, howMany}
 use Rattle.any_order.specs.Steps.{Pass, begun, Result, refusal, first, none, react}
 
 -- ---- items
@@ -98,14 +98,14 @@ listBegun β (ping w) = replicate 5 0 ++ (activeOf β (ping w) ++ replicate 240 
 -- ---- the items on the board
 
 -- what an item says on the board: `reply` and `time_up` promise the answer and the next state that it then gets
-abbrev pub heardOn : Board → Item → Heard
-heardOn β x = heard (frameAt β (x .0)) (x .1)
+abbrev pub judgedOn : Board → Item → Judged
+judgedOn β x = judged (frameAt β (x .0)) (x .1)
 
 abbrev pub answerTo : Board → Item → Answer Outcome
-answerTo β x = replyAnswer β (x .0) (heardOn β x)
+answerTo β x = replyAnswer β (x .0) (judgedOn β x)
 
 abbrev pub afterItem : Board → Item → Board
-afterItem β x = boardReplied β (x .0) (heardOn β x)
+afterItem β x = boardReplied β (x .0) (judgedOn β x)
 
 -- the frame outstanding on crate c, where there is one: what `outstanding_frame` promises to give
 abbrev pub framesGiven : Answer (List ℕ) → List (List ℕ)

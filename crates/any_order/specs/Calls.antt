@@ -10,14 +10,14 @@ use Rattle.refusals.specs.Writing.{Wrote}
 use Rattle.refusals.specs.declared.Written.{Written}
 use Rattle.refusals.specs.declared.Written.the-variants.{Length, Refused}
 use Rattle.commands.specs.declared.Command.the-variants.{Write, Ping}
-use Rattle.acceptance.specs.Acceptance.{answerOnPaper}
-use Rattle.steps.specs.Steps.{heardIn, silence}
-use Rattle.crate_pass.specs.Crate.{replyOnPaper}
+use Rattle.acceptance.specs.Acceptance.{answerMeaning}
+use Rattle.steps.specs.Steps.{judgedReply, noReply}
+use Rattle.crate_pass.specs.Crate.{replyMeaning}
 use Rattle.crate_pass.specs.declared.Outcome.{Outcome}
 use Rattle.board.specs.Commands.{Obeys}
 use Rattle.board.specs.SlowControl.{frameAt, fetchRules, Replies}
 use Rattle.board.specs.declared.Board.{Board}
-use Rattle.board.specs.declared.Obedience.{Obedience}
+use Rattle.board.specs.declared.CommandResult.{CommandResult}
 use Rattle.board.specs.declared.Replied.{Replied}
 use Rattle.cells.specs.Order.{ordered}
 use Rattle.any_order.specs.Steps.{Event, reply, timeUp}
@@ -26,9 +26,9 @@ use Rattle.any_order.specs.AnyOrder.{Item, ItemResult, Begin, write, pin
 -- ---- the begin
 
 -- `obey` returned r: the write or the ping was accepted
-abbrev pub BegunBy : Board → Begin → Obedience → Type 0
-BegunBy β (write w) r = Obeys β w r × (answerOnPaper (r .answer) ≡ given Write)
-BegunBy β (ping w) r = Obeys β w r × (answerOnPaper (r .answer) ≡ given Ping)
+abbrev pub BegunBy : Board → Begin → CommandResult → Type 0
+BegunBy β (write w) r = Obeys β w r × (answerMeaning (r .answer) ≡ given Write)
+BegunBy β (ping w) r = Obeys β w r × (answerMeaning (r .answer) ≡ given Ping)
 
 -- ---- the items
 
@@ -39,8 +39,8 @@ pub record ServedItem : Type 0 where
 
 -- the contracts of `reply` and of `time_up`
 abbrev pub RepliesTo : Board → ℕ → Event → Replied → Type 0
-RepliesTo β c (reply bytes) r = Replies β c (heardIn (frameAt β c) bytes) r
-RepliesTo β c timeUp r = Replies β c silence r
+RepliesTo β c (reply bytes) r = Replies β c (judgedReply (frameAt β c) bytes) r
+RepliesTo β c timeUp r = Replies β c noReply r
 
 -- a series: each call keeps its contract, on the board that the one before returned
 abbrev pub Chained : Board → List ServedItem → Type 0
@@ -62,7 +62,7 @@ abbrev pub answeredCrate : Answered → ℕ
 answeredCrate t = t .0 .0
 
 abbrev pub seen : ServedItem → Answered
-seen s = (s .item, replyOnPaper (s .replied .answer))
+seen s = (s .item, replyMeaning (s .replied .answer))
 
 abbrev pub answered : ItemResult → Answered
 answered t = (t .0, t .1 .answer)
@@ -91,7 +91,7 @@ FetchesOn c (γ ∷ γs) (f ∷ fs) = Fetches γ c f × FetchesOn c γs fs
 unfoldable pub boardsAfter : ℕ → List ServedItem → List Board
 boardsAfter c [] = []
 boardsAfter c (s ∷ ss) =
-    cond (eqb (s .item .0) c && isAccepted (replyOnPaper (s .replied .answer))) (s .replied .board ∷ boardsAfter c ss) (boardsAfter c ss)
+    cond (eqb (s .item .0) c && isAccepted (replyMeaning (s .replied .answer))) (s .replied .board ∷ boardsAfter c ss) (boardsAfter c ss)
 
 -- the frame that the caller then has, where there is one
 abbrev pub framesSeen : Written → List ℕ → List (List ℕ)

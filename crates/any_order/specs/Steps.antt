@@ -1,6 +1,6 @@
 -- 01, Slow control: the steps of a pass on one crate, as the paper words them. Nothing here speaks of how the board keeps its place; which boards a
 -- pass serves, how often a step is sent and what the list says of a board are said here by themselves, and not taken from what the code's contracts
--- cite. What a reply says to a frame, good or not and with which DNA and CRC error byte, is `heardIn`, which the contracts cite too.
+-- cite. What a reply says to a frame, good or not and with which DNA and CRC error byte, is `judgedReply`, which the contracts cite too.
 use Prim.Native.Nat.{ℕ, zero, suc, _+_, _*_, _/_, _%_, _^_}
 use mathlib.Core.Bool.{Bool, true, false, cond}
 use mathlib.Core.List.{List, [], _∷_, _++_, map}
@@ -8,8 +8,8 @@ use lib.Dec.{ltb, eqb}
 use lib.ListN.{set, replicate}
 use Rattle.refusals.specs.Tables.{Answer, given, refused}
 use Rattle.numbers.specs.Numbers.{digits}
-use Rattle.steps.specs.Steps.{heardIn, silence}
-use Rattle.steps.specs.declared.Heard.{Heard}
+use Rattle.steps.specs.Steps.{judgedReply, noReply}
+use Rattle.steps.specs.declared.Judged.{Judged}
 use Rattle.crate_pass.specs.declared.PassKind.{PassKind}
 use Rattle.crate_pass.specs.declared.PassKind.the-variants.{Reprogramming, Ping}
 use Rattle.crate_pass.specs.declared.Outcome.{Outcome}
@@ -57,9 +57,9 @@ pub data Event : Type 0 where
   timeUp : Event
 
 -- what it says as the answer to a frame
-abbrev pub heard : List ℕ → Event → Heard
-heard frame (reply bytes) = heardIn frame bytes
-heard frame timeUp = silence
+abbrev pub judged : List ℕ → Event → Judged
+judged frame (reply bytes) = judgedReply frame bytes
+judged frame timeUp = noReply
 
 -- ---- what a ping finds of a board
 
@@ -128,7 +128,7 @@ others b [] = []
 others b (s ∷ ss) = cond (eqb (s .board) b) (others b ss) (s ∷ others b ss)
 
 -- after a good reply to the step s, which so many sends before had failed: a ping's reply says what the board is
-unfoldable pub foundBy : Step → ℕ → Heard → List Found → List Found
+unfoldable pub foundBy : Step → ℕ → Judged → List Found → List Found
 foundBy s tries h boards = cond (eqb (s .code) 4) (set boards (s .board) (found (tries + 1) (h .dna) (h .«crc_errors»))) boards
 
 -- What follows is over `frame`, the bytes of a step's frame.
@@ -141,8 +141,8 @@ says frame outcome p = (record { answer = given (outcome (none (p .todo))); fram
 unfoldable pub reactTo : (Step → List ℕ) → Event → Pass → List Step → Result × Pass
 reactTo frame e p [] = (refusal 12, p)
 reactTo frame e p (s ∷ ss) =
-    cond (heard (frame s) e .good)
-    (says frame Good (pass ss 0 (p .failed) (foundBy s (p .tries) (heard (frame s) e) (p .boards))))
+    cond (judged (frame s) e .good)
+    (says frame Good (pass ss 0 (p .failed) (foundBy s (p .tries) (judged (frame s) e) (p .boards))))
     (cond (ltb (p .tries) 2)
     (says frame Again (pass (s ∷ ss) (p .tries + 1) (p .failed) (p .boards)))
     (says frame BoardFailed (pass (others (s .board) ss) 0 (p .failed ++ (s ∷ [])) (p .boards))))

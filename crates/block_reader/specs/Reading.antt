@@ -1,14 +1,14 @@
 -- 01, Blocks sent out: "A reader is told the kind, gives the header's board ID, firmware ID, trigger counter and timestamp, and hands back the
 -- body as a part of the caller's words. It checks length, static and dynamic bounds, board ID and spare."
-use Prim.Native.Nat.{ℕ, _+_, _^_}
+use Prim.Native.Nat.{ℕ, _+_}
 use mathlib.Core.Path.{_≡_}
 use mathlib.Core.Bool.{not, _||_}
 use mathlib.Core.List.{List, [], _∷_}
 use lib.Dec.{ltb, leb, eqb}
 use lib.ListN.{length, getD, drop}
 use denote.Ref.{RefT, now}
-use Rattle.refusals.specs.Tables.{Answer, given, refused, Rule, rule, ruleAt, lowest, onPaper}
-use Rattle.numbers.specs.Numbers.{number}
+use Rattle.refusals.specs.Tables.{Answer, given, refused, Rule, rule, ruleAt, lowest, refusalMeaning}
+use Rattle.numbers.specs.Numbers.{number, idLimit}
 use Rattle.words.specs.Parts.{PartOf}
 use Rattle.bounds.specs.Bounds.{boundOf, measurementBound, lowestAbove}
 use Rattle.blocks.specs.declared.Header.{Header}
@@ -52,13 +52,13 @@ unfoldable pub readRules : Kind → List ℕ → List Rule
 readRules kind w =
     rule 6 (not (eqb (length w) (11 + bodyLength kind)))
     ∷ bodyAbove kind (drop 11 w)
-    ∷ rule 20 (leb (2 ^ 57) (headerIn w .«board_id») || not (eqb (getD w 10 0) 0))
+    ∷ rule 20 (leb idLimit (headerIn w .«board_id») || not (eqb (getD w 10 0) 0))
     ∷ []
 
 -- what a reader answers, as 01 has it
-abbrev pub readOnPaper : BlockRead → Answer Header
-readOnPaper (Read h) = given h
-readOnPaper (Refused r) = onPaper r
+abbrev pub readMeaning : BlockRead → Answer Header
+readMeaning (Read h) = given h
+readMeaning (Refused r) = refusalMeaning r
 
 unfoldable pub blockAnswer : Kind → List ℕ → Answer Header
 blockAnswer kind w = lowest (readRules kind w) (headerIn w)
@@ -73,5 +73,5 @@ bodyOf kind w = bodyWhere (blockAnswer kind w) (drop 11 w)
 
 -- what a reader hands back of the words w: the answer, and the body "as a part of the caller's words"
 pub record ReadsBlock (kind : Kind) (w : RefT (List ℕ)) (r : ReadBlock) : Type 0 where
-  pub answer : readOnPaper (r .answer) ≡ blockAnswer kind (now w)
+  pub answer : readMeaning (r .answer) ≡ blockAnswer kind (now w)
   pub body : PartOf w 11 (bodyOf kind (now w)) (r .body)

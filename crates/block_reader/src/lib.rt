@@ -4,12 +4,13 @@ ghost use mathlib.Core.List.{[], _∷_};
 ghost use lib.ListN.{length, drop};
 ghost use Rattle.refusals.specs.Tables.{lowest};
 ghost use Rattle.words.specs.Parts.{PartOf};
-ghost use Rattle.bounds.specs.Bounds.{checkedOnPaper};
-ghost use Rattle.block_reader.specs.Reading.{bodyLength, bodyAbove, headerIn, readOnPaper, blockAnswer, bodyWhere, ReadsBlock};
+ghost use Rattle.bounds.specs.Bounds.{checkedMeaning};
+ghost use Rattle.block_reader.specs.Reading.{bodyLength, bodyAbove, headerIn, readMeaning, blockAnswer, bodyWhere, ReadsBlock};
 use blocks::Header;
 use bounds::Bounded;
 use bounds::BoundsChecked;
 use bounds::check_bounds;
+use numbers::ID_LIMIT;
 use numbers::number32;
 use numbers::number48;
 use numbers::number64;
@@ -47,7 +48,7 @@ impl Kind {
 // Checks a body against its bounds. The measurements of a dynamic one stand after three words of on-time.
 fn check_body(kind: Kind, body: &[u16]) -> BoundsChecked
     requires { ⌜ length (now body) ≡ bodyLength kind ⌝ }
-    ensures { λ r. ⌜ checkedOnPaper r ≡ lowest (bodyAbove kind (now (body .entry)) ∷ []) tt ⌝ }
+    ensures { λ r. ⌜ checkedMeaning r ≡ lowest (bodyAbove kind (now (body .entry)) ∷ []) tt ⌝ }
 {
     match kind {
         Kind::Static => check_bounds(Bounded::Configuration, body),
@@ -79,7 +80,7 @@ fn header_in(words: &[u16]) -> Header
 
 // Reads a block of a kind.
 pub fn read_block(kind: Kind, words: &[u16]) -> BlockRead
-    ensures { λ r. ⌜ readOnPaper r ≡ blockAnswer kind (now (words .entry)) ⌝ }
+    ensures { λ r. ⌜ readMeaning r ≡ blockAnswer kind (now (words .entry)) ⌝ }
 {
     let length = kind.body_length();
     if words.len() != 11 + length {
@@ -90,7 +91,7 @@ pub fn read_block(kind: Kind, words: &[u16]) -> BlockRead
         BoundsChecked::Above(place) => return BlockRead::Refused(Refusal::AboveBound(place)),
     }
     let header = header_in(words);
-    if 144115188075855872 <= header.board_id {
+    if ID_LIMIT <= header.board_id {
         return BlockRead::Refused(Refusal::WrongHeader);
     }
     if words[10] != 0 {
@@ -101,7 +102,7 @@ pub fn read_block(kind: Kind, words: &[u16]) -> BlockRead
 
 // The body of a block that got the answer, as the part of the words after the header; no words where it is refused.
 pub fn body_after(answer: BlockRead, words: &[u16]) -> &[u16]
-    ensures { λ r. ⌜ PartOf (words .entry) 11 (bodyWhere (readOnPaper answer) (drop 11 (now (words .entry)))) r ⌝ }
+    ensures { λ r. ⌜ PartOf (words .entry) 11 (bodyWhere (readMeaning answer) (drop 11 (now (words .entry)))) r ⌝ }
 {
     match answer {
         BlockRead::Read(_) => part(words, 11, words.len()),

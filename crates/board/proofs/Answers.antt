@@ -16,7 +16,7 @@ use Rattle.command_reader.specs.Reading.{readRules}
 use Rattle.run.specs.Run.{triggerRules, triggerAnswer}
 use Rattle.blocks.specs.Blocks.{headerWords, staticRules, measurementRules, blockRules}
 use Rattle.ftu_list.specs.List.{listBody}
-use Rattle.steps.specs.declared.Heard.{Heard}
+use Rattle.steps.specs.declared.Judged.{Judged}
 use Rattle.board.specs.State.{powerUpAnswer}
 use Rattle.board.specs.Commands.{boardAnswer}
 use Rattle.board.specs.SlowControl.{frameAt, fetchRules, replyAnswer, sentAnswer}
@@ -63,7 +63,7 @@ module _ (β : Board) where
   unfolding triggerRules writingRules
   trigger-numbers f out = refuses-from 15 19 (trigger-exactly β f out) tt
 
-  pub reply-numbers : (i : ℕ) (h : Heard) → RefusesFrom 11 12 (replyAnswer β i h)
+  pub reply-numbers : (i : ℕ) (h : Judged) → RefusesFrom 11 12 (replyAnswer β i h)
   reply-numbers i h = refuses-from 11 12 (reply-exactly β i h) tt
 
   pub frame-numbers : (i : ℕ) (out : List ℕ) → RefusesFrom 11 19 (writing (fetchRules β i) (frameAt β i) out)

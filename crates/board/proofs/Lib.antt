@@ -5,4 +5,4 @@ pub mod Sending
 pub mod Tables
 pub mod Answers
 pub mod NothingLost
-pub mod Apart
+pub mod Injective

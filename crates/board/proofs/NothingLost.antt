@@ -6,7 +6,7 @@ use mathlib.Core.Logic.{_⊎_, inl, inr, ⊎-elim}
 use mathlib.Core.List.{List}
 use native.Mathlib.Omega.{arith}
 use Rattle.refusals.specs.Tables.{Answer, given, refused, lowest}
-use Rattle.refusals.specs.Writing.{Wrote, writtenOnPaper}
+use Rattle.refusals.specs.Writing.{Wrote, writtenMeaning}
 use Rattle.refusals.specs.declared.Written.{Written}
 use Rattle.refusals.proofs.Tables.{refused-more, refused-applies}
 use Rattle.refusals.proofs.Writing.{refused-keeps}
@@ -16,18 +16,18 @@ use Rattle.commands.specs.declared.Command.{Command}
 use Rattle.command_reader.specs.Reading.{Taken, readRules, commandIn, commandAnswer, usedOf, blockOf}
 use Rattle.command_reader.proofs.Tables.{accepted}
 use Rattle.command_reader.proofs.Used.{used-is}
-use Rattle.acceptance.specs.Acceptance.{stateRules, answerOnPaper, decided}
+use Rattle.acceptance.specs.Acceptance.{stateRules, answerMeaning, decided}
 use Rattle.acceptance.proofs.Deciding.{by-state}
 use Rattle.run.specs.Run.{triggerAnswer, afterAnswer}
-use Rattle.steps.specs.declared.Heard.{Heard}
-use Rattle.crate_pass.specs.Crate.{replyOnPaper}
+use Rattle.steps.specs.declared.Judged.{Judged}
+use Rattle.crate_pass.specs.Crate.{replyMeaning}
 use Rattle.board.proofs.Answers.{applies-between}
-use Rattle.board.specs.State.{situationOf, withRun}
+use Rattle.board.specs.State.{statusOf, withRun}
 use Rattle.board.specs.Commands.{boardAnswer, afterCommand, boardAfter, Obeys, afterTriggerOn, TriggersOn}
 use Rattle.board.specs.SlowControl.{frameAt, fetchRules, replyAnswer, afterReply, boardReplied, Replies}
 use Rattle.board.specs.SentOut.{SendsStatic, SendsDynamic, SendsList, SendsFailure}
 use Rattle.board.specs.declared.Board.{Board}
-use Rattle.board.specs.declared.Obedience.{Obedience}
+use Rattle.board.specs.declared.CommandResult.{CommandResult}
 use Rattle.board.specs.declared.TriggeredOn.{TriggeredOn}
 use Rattle.board.specs.declared.Replied.{Replied}
 
@@ -37,7 +37,7 @@ Writer = List ℕ → Written → List ℕ → Type 0
 
 -- where it refuses it leaves the lent output as it was
 abbrev pub KeepsOutput : Writer → Type 0
-KeepsOutput writer = (out : List ℕ) (r : Written) (after : List ℕ) → writer out r after → (n p : ℕ) → writtenOnPaper r ≡ refused n p → after ≡ out
+KeepsOutput writer = (out : List ℕ) (r : Written) (after : List ℕ) → writer out r after → (n p : ℕ) → writtenMeaning r ≡ refused n p → after ≡ out
 
 -- ---- the next state, and the words that a command uses
 
@@ -57,15 +57,15 @@ module _ (β : Board) (n p : ℕ) where
       where
         go : (a : Answer Taken) → commandAnswer w ≡ a → UsedAs w n
         go (refused m q) r =
-            let d : decided w (situationOf β) ≡ refused m q =
-            refused-more (readRules w) (stateRules (commandIn w) (situationOf β)) (accepted w) (commandIn w) m q r in
+            let d : decided w (statusOf β) ≡ refused m q =
+            refused-more (readRules w) (stateRules (commandIn w) (statusOf β)) (accepted w) (commandIn w) m q r in
             let k : _≡_ {A = Answer Command} (refused m q) (refused n p) = sym d ∙ e in
             let l = applies-between 1 8 (readRules w) tt m q (refused-applies (readRules w) (accepted w) m q r) in
             let j : m ≡ n = cc in
             inl (omega arith, ap usedOf r)
         go (given t) r =
-            let rules = stateRules (t .command) (situationOf β) in
-            let d : lowest rules (t .command) ≡ refused n p = sym (by-state w (situationOf β) (t .command) (t .used) r) ∙ e in
+            let rules = stateRules (t .command) (statusOf β) in
+            let d : lowest rules (t .command) ≡ refused n p = sym (by-state w (statusOf β) (t .command) (t .used) r) ∙ e in
             inr (applies-between 9 10 rules tt n p (refused-applies rules (t .command) n p d) .0, ap usedOf r ∙ used-is w t r)
 
     pub unread-words : n ≤ 8 → usedOf (commandAnswer w) ≡ 0
@@ -78,19 +78,19 @@ module _ (β : Board) (n p : ℕ) where
   unfolding withRun
   trigger-keeps f out e = ap (λ (a : Answer ℕ). withRun β (afterAnswer (β .run) a)) e
 
-  pub reply-keeps : (i : ℕ) (h : Heard) → replyAnswer β i h ≡ refused n p → boardReplied β i h ≡ β
+  pub reply-keeps : (i : ℕ) (h : Judged) → replyAnswer β i h ≡ refused n p → boardReplied β i h ≡ β
   unfolding boardReplied
   reply-keeps i h e = ap (afterReply β i h) e
 
 -- ---- what a refused call returns, and what it leaves in lent memory
 
 pub record NothingLost (β : Board) : Type 0 where
-  pub command : (w : List ℕ) (r : Obedience) → Obeys β w r → (n p : ℕ) → answerOnPaper (r .answer) ≡ refused n p
+  pub command : (w : List ℕ) (r : CommandResult) → Obeys β w r → (n p : ℕ) → answerMeaning (r .answer) ≡ refused n p
       → (r .board ≡ β) × (n ≤ 8 → r .used ≡ 0) × (9 ≤ n → r .used ≡ 5 + blockLength (commandIn w))
-  pub trigger : (f : Fields) (out after : List ℕ) (t : TriggeredOn) → TriggersOn β f out t after → (n p : ℕ) → writtenOnPaper (t .answer) ≡ refused n p
+  pub trigger : (f : Fields) (out after : List ℕ) (t : TriggeredOn) → TriggersOn β f out t after → (n p : ℕ) → writtenMeaning (t .answer) ≡ refused n p
       → (t .board ≡ β) × (after ≡ out)
   -- a reply or a time-up
-  pub reply : (i : ℕ) (h : Heard) (r : Replied) → Replies β i h r → (n p : ℕ) → replyOnPaper (r .answer) ≡ refused n p → r .board ≡ β
+  pub reply : (i : ℕ) (h : Judged) (r : Replied) → Replies β i h r → (n p : ℕ) → replyMeaning (r .answer) ≡ refused n p → r .board ≡ β
   -- the outstanding frame, and the four blocks
   pub frame : (i : ℕ) → KeepsOutput (Wrote (fetchRules β i) (frameAt β i))
   pub static : KeepsOutput (SendsStatic β)

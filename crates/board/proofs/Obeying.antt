@@ -17,7 +17,7 @@ use Rattle.commands.specs.declared.Command.the-variants.{Read, Write, Start, St
 use Rattle.commands.specs.Commands.{isWrite}
 use Rattle.commands.proofs.Command.{the-type}
 use Rattle.commands.proofs.Each.{is-a-write}
-use Rattle.acceptance.specs.Acceptance.{answerOnPaper}
+use Rattle.acceptance.specs.Acceptance.{answerMeaning}
 use Rattle.acceptance.specs.declared.CommandAnswer.{CommandAnswer}
 use Rattle.acceptance.specs.declared.CommandAnswer.the-variants.{Obeyed, Refused}
 use Rattle.refusals.specs.declared.Refusal.{Refusal}
@@ -30,7 +30,7 @@ use Rattle.four_crates.specs.FourCrates.{begunAll}
 use Rattle.acceptance.proofs.Deciding.{obeyed-read}
 use Rattle.command_reader.specs.Reading.{commandAnswer, usedOf, blockBefore, blockOf}
 use Rattle.command_reader.proofs.Used.{length-block}
-use Rattle.board.specs.State.{situationOf, activeWords}
+use Rattle.board.specs.State.{statusOf, activeWords}
 use Rattle.board.specs.Commands.{boardAnswer, written, pinged, carriedOut, afterCommand, boardAfter}
 use Rattle.board.specs.declared.Board.{Board}
 
@@ -56,32 +56,32 @@ pass-begun β block (CrateReset c) o = absurd (miss (1 ∷ 4 ∷ []) 5 tt o)
 
 -- the board β after the answer a to a command whose block is b: a refusal, or the command c
 module _ (β : Board) (b : List ℕ) (a : CommandAnswer) where
-  pub after-refusal : (r : Refusal) → a ≡ Refused r → β ≡ afterCommand β b (answerOnPaper a)
-  after-refusal r q = ap (λ (x : CommandAnswer). afterCommand β b (answerOnPaper x)) (sym q)
+  pub after-refusal : (r : Refusal) → a ≡ Refused r → β ≡ afterCommand β b (answerMeaning a)
+  after-refusal r q = ap (λ (x : CommandAnswer). afterCommand β b (answerMeaning x)) (sym q)
 
-  pub after-obeyed : (c d : Command) → a ≡ Obeyed c → c ≡ d → (after : Board) → after ≡ carriedOut β b d → after ≡ afterCommand β b (answerOnPaper a)
-  after-obeyed c d q k after f = f ∙ ap (λ (x : CommandAnswer). afterCommand β b (answerOnPaper x)) (sym (q ∙ ap Obeyed k))
+  pub after-obeyed : (c d : Command) → a ≡ Obeyed c → c ≡ d → (after : Board) → after ≡ carriedOut β b d → after ≡ afterCommand β b (answerMeaning a)
+  after-obeyed c d q k after f = f ∙ ap (λ (x : CommandAnswer). afterCommand β b (answerMeaning x)) (sym (q ∙ ap Obeyed k))
 
   -- where it begins a pass, t telling which
   pub after-pass : (c : Command) → a ≡ Obeyed c → BeginsPass c → (t : Bool) → t ≡ isWrite c → (after : Board) → after ≡ cond t (written β b) (pinged β)
-      → after ≡ afterCommand β b (answerOnPaper a)
+      → after ≡ afterCommand β b (answerMeaning a)
   after-pass c q o t k after f =
       after-obeyed c c q refl after (f ∙ ap (λ (s : Bool). cond s (written β b) (pinged β)) k ∙ pass-begun β b c o)
 
   -- a write has its block
-  pub write-whole : (answerOnPaper a ≡ given Write → length b ≡ 436) → (c : Command) → a ≡ Obeyed c → (t : Bool) → t ≡ isWrite c → t ≡ true → length b ≡ 436
-  write-whole h c q t f k = h (ap answerOnPaper q ∙ ap given (is-a-write c (sym f ∙ k)))
+  pub write-whole : (answerMeaning a ≡ given Write → length b ≡ 436) → (c : Command) → a ≡ Obeyed c → (t : Bool) → t ≡ isWrite c → t ≡ true → length b ≡ 436
+  write-whole h c q t f k = h (ap answerMeaning q ∙ ap given (is-a-write c (sym f ∙ k)))
 
 -- the answer a to the first command of the words w, which used n of them, and the block b that the reader hands back
-module _ (β : Board) (w : List ℕ) (a : CommandAnswer) (e : answerOnPaper a ≡ boardAnswer β w) (n : ℕ) (u : n ≡ usedOf (commandAnswer w))
+module _ (β : Board) (w : List ℕ) (a : CommandAnswer) (e : answerMeaning a ≡ boardAnswer β w) (n : ℕ) (u : n ≡ usedOf (commandAnswer w))
     (b : List ℕ) (p : b ≡ blockBefore n w) where
   block-is : b ≡ blockOf w
   block-is = p ∙ ap (λ (k : ℕ). blockBefore k w) u
 
-  pub block-whole : answerOnPaper a ≡ given Write → length b ≡ 436
-  block-whole q = ap length block-is ∙ length-block w _ (obeyed-read w (situationOf β) Write (sym e ∙ q))
+  pub block-whole : answerMeaning a ≡ given Write → length b ≡ 436
+  block-whole q = ap length block-is ∙ length-block w _ (obeyed-read w (statusOf β) Write (sym e ∙ q))
 
-  pub after-command : (after : Board) → after ≡ afterCommand β b (answerOnPaper a) → after ≡ boardAfter β w
+  pub after-command : (after : Board) → after ≡ afterCommand β b (answerMeaning a) → after ≡ boardAfter β w
   after-command after f = f ∙ ap₂ (afterCommand β) block-is e
 
 -- the parts of a board on which a write or a ping began a pass

@@ -5,7 +5,7 @@ use mathlib.Core.Path.{_≡_, refl, sym, ap, _∙_}
 use mathlib.Core.Bool.{true, false}
 use mathlib.Core.List.{List, [], _∷_}
 use Rattle.refusals.specs.Refusals.{numberOf, placeOf}
-use Rattle.refusals.specs.Tables.{given, refused, lowest, onPaper}
+use Rattle.refusals.specs.Tables.{given, refused, lowest, refusalMeaning}
 use Rattle.refusals.specs.declared.Refusal.{Refusal}
 use Rattle.refusals.specs.declared.Written.{Written}
 use Rattle.refusals.specs.declared.Written.the-variants.{Refused}
@@ -31,7 +31,7 @@ module _ (β : Board) where
 
     module _ (e : inPass (β .crates) ≡ false) where
       -- there is no such record
-      pub failure-refused : (r : Refusal) → onPaper r ≡ recordAnswer (β .crates) n → (out : List ℕ) → SendsFailure β n out (Refused r) out
+      pub failure-refused : (r : Refusal) → refusalMeaning r ≡ recordAnswer (β .crates) n → (out : List ℕ) → SendsFailure β n out (Refused r) out
       unfolding recordAnswer
       failure-refused r q out =
           let rows = noSuchRecord (β .crates) n ∷ [] in

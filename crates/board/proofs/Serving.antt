@@ -8,7 +8,7 @@ use lib.ListN.{set}
 use lib.Seq.{set-getD}
 use borrow.Author.Tests.{le-ltb}
 use Rattle.refusals.specs.Refusals.{numberOf, placeOf}
-use Rattle.refusals.specs.Tables.{given, refused, lowest, onPaper}
+use Rattle.refusals.specs.Tables.{given, refused, lowest, refusalMeaning}
 use Rattle.refusals.specs.Writing.{Wrote}
 use Rattle.refusals.specs.declared.Refusal.{Refusal}
 use Rattle.refusals.specs.declared.Refusal.the-variants.{NoSuchCrate}
@@ -17,8 +17,8 @@ use Rattle.refusals.specs.declared.Written.the-variants.{Refused}
 use Rattle.refusals.proofs.Tables.{given-clear, given-same, refused-any}
 use Rattle.refusals.proofs.Writing.{wrote-refused, wrote-under}
 use Rattle.configuration.specs.Configuration.{activeWord}
-use Rattle.steps.specs.Steps.{stepFrame, heardIn}
-use Rattle.steps.specs.declared.Heard.{Heard}
+use Rattle.steps.specs.Steps.{stepFrame, judgedReply}
+use Rattle.steps.specs.declared.Judged.{Judged}
 use Rattle.crate_pass.specs.Crate.{isDone, crateAnswer, crateAfter, Serves}
 use Rattle.crate_pass.specs.declared.Crate.{Crate}
 use Rattle.crate_pass.specs.declared.CrateServed.{CrateServed}
@@ -50,7 +50,7 @@ module _ (β : Board) (i : ℕ) where
         (rw (q ∙ frame-of) at w)
 
   -- nothing is outstanding, or there is no such crate
-  module _ (r : Refusal) (e : onPaper r ≡ outstandingAnswer (β .crates) i) where
+  module _ (r : Refusal) (e : refusalMeaning r ≡ outstandingAnswer (β .crates) i) where
     refuses : {A : Type 0} (a : A) → lowest (fetchRules β i) a ≡ refused (numberOf r) (placeOf r)
     unfolding outstandingAnswer
     refuses a = refused-any (fetchRules β i) _ a (numberOf r) (placeOf r) (sym e)
@@ -58,19 +58,19 @@ module _ (β : Board) (i : ℕ) where
     pub fetch-refused : (out : List ℕ) → Wrote (fetchRules β i) (frameAt β i) out (Refused r) out
     fetch-refused out = wrote-refused (fetchRules β i) (frameAt β i) out r (refuses 0)
 
-  -- what is heard in answer to the step of the crate k there
-  pub heard-at : (k : Crate) (bytes : List ℕ) (h : Heard) → h ≡ heardIn (stepFrame (β .block) i (k .board) (k .code)) bytes → k ≡ crateAt β i
-      → h ≡ heardIn (frameAt β i) bytes
+  -- a reply judged against the step of the crate k there
+  pub judged-at : (k : Crate) (bytes : List ℕ) (h : Judged) → h ≡ judgedReply (stepFrame (β .block) i (k .board) (k .code)) bytes → k ≡ crateAt β i
+      → h ≡ judgedReply (frameAt β i) bytes
   unfolding frameAt
-  heard-at k bytes h e q = e ∙ ap (λ (x : Crate). heardIn (stepFrame (β .block) i (x .board) (x .code)) bytes) q
+  judged-at k bytes h e q = e ∙ ap (λ (x : Crate). judgedReply (stepFrame (β .block) i (x .board) (x .code)) bytes) q
 
-  -- ---- a reply or a time-up: what is heard on a crate up to 3 is that crate's to answer, and changes it alone
+  -- ---- a reply or a time-up: one on a crate up to 3 is that crate's to answer, and changes it alone
 
   pub with-same : withCrates β (β .crates) ≡ β
   unfolding withCrates
   with-same = refl
 
-  module _ (h : Heard) where
+  module _ (h : Judged) where
     pub answer-high : 3 < i → replyAnswer β i h ≡ refused 11 0
     unfolding servedAnswer
     answer-high l = rules-11 (β .crates) i (movedAt β i h .outcome) l

@@ -18,10 +18,10 @@ use Rattle.blocks.specs.Blocks.{staticRules, measurementRules, blockRules}
 use Rattle.blocks.proofs.Tables as blocks
 use Rattle.blocks.proofs.Tables.{BlockExactly, block-exactly}
 use Rattle.ftu_list.specs.List.{listBody}
-use Rattle.steps.specs.declared.Heard.{Heard}
+use Rattle.steps.specs.declared.Judged.{Judged}
 use Rattle.four_crates.specs.FourCrates.{noSuchCrate}
 use Rattle.four_crates.proofs.OneCrate as crates
-use Rattle.board.specs.State.{crateAt, situationOf, powerUpRules, powerUpAnswer}
+use Rattle.board.specs.State.{crateAt, statusOf, powerUpRules, powerUpAnswer}
 use Rattle.board.specs.Commands.{boardAnswer}
 use Rattle.board.specs.SlowControl.{frameAt, fetchRules, movedAt, replyAnswer, sentAnswer}
 use Rattle.board.specs.SentOut.{headerOf, dynamicBodyOf, listRules, listOf, failureRules, failureBodyOf}
@@ -38,15 +38,15 @@ power-up-exactly id = exactly (powerUpRules id) tt tt
 
 module _ (β : Board) where
   -- a command: 1 to 10
-  pub command-exactly : (w : List ℕ) → Exactly (commandRules w (situationOf β)) (commandIn w) (boardAnswer β w)
-  command-exactly w = deciding.command-exactly w (situationOf β)
+  pub command-exactly : (w : List ℕ) → Exactly (commandRules w (statusOf β)) (commandIn w) (boardAnswer β w)
+  command-exactly w = deciding.command-exactly w (statusOf β)
 
   -- a trigger: 15, 16, 17, 19
   pub trigger-exactly : (f : Fields) (out : List ℕ) → WritesExactly (triggerRules (β .run) f) (packetBytes (triggerNumber (β .run)) f) out
   trigger-exactly f out = run.trigger-exactly (β .run) f out
 
   -- a reply or a time-up: 11, 12
-  pub reply-exactly : (i : ℕ) (h : Heard) → Exactly (fetchRules β i) (movedAt β i h .outcome) (replyAnswer β i h)
+  pub reply-exactly : (i : ℕ) (h : Judged) → Exactly (fetchRules β i) (movedAt β i h .outcome) (replyAnswer β i h)
   reply-exactly i h = crates.served-exactly (β .crates) i (β .kind) _ h
 
   -- the outstanding frame: 11, 12, 19

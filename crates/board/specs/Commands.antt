@@ -9,21 +9,21 @@ use Rattle.packets.specs.declared.Fields.{Fields}
 use Rattle.commands.specs.declared.Command.{Command}
 use Rattle.commands.specs.declared.Command.the-variants.{Read, Write, Start, Stop, Ping, CrateReset}
 use Rattle.command_reader.specs.Reading.{commandAnswer, usedOf, blockOf}
-use Rattle.acceptance.specs.Acceptance.{answerOnPaper, decided}
+use Rattle.acceptance.specs.Acceptance.{answerMeaning, decided}
 use Rattle.run.specs.Run.{started, stopped, refreshed, triggerNumber, triggerRules, triggerAnswer, afterAnswer}
 use Rattle.crate_pass.specs.declared.PassKind.{PassKind}
 use Rattle.crate_pass.specs.declared.PassKind.the-variants.{Reprogramming}
 use Rattle.four_crates.specs.FourCrates.{begunAll}
-use Rattle.board.specs.State.{activeWords, situationOf, withRun}
+use Rattle.board.specs.State.{activeWords, statusOf, withRun}
 use Rattle.board.specs.declared.Board.{Board}
-use Rattle.board.specs.declared.Obedience.{Obedience}
+use Rattle.board.specs.declared.CommandResult.{CommandResult}
 use Rattle.board.specs.declared.TriggeredOn.{TriggeredOn}
 
 -- ---- commands
 
 -- what the first command of the words gets
 abbrev pub boardAnswer : Board → List ℕ → Answer Command
-boardAnswer β w = decided w (situationOf β)
+boardAnswer β w = decided w (statusOf β)
 
 -- "A write stores the block, sets fresh and begins a reprogramming pass"
 unfoldable pub written : Board → List ℕ → Board
@@ -67,8 +67,8 @@ abbrev pub boardAfter : Board → List ℕ → Board
 boardAfter β w = afterCommand β (blockOf w) (boardAnswer β w)
 
 -- the board answered r, and used the words that reading the command uses
-pub record Obeys (β : Board) (w : List ℕ) (r : Obedience) : Type 0 where
-  pub answer : answerOnPaper (r .answer) ≡ boardAnswer β w
+pub record Obeys (β : Board) (w : List ℕ) (r : CommandResult) : Type 0 where
+  pub answer : answerMeaning (r .answer) ≡ boardAnswer β w
   pub used : r .used ≡ usedOf (commandAnswer w)
   pub board : r .board ≡ boardAfter β w
 

@@ -6,8 +6,8 @@ use lib.ListN.{set}
 use Rattle.refusals.specs.Tables.{Answer, given, refused, Rule}
 use Rattle.configuration.specs.Configuration.{activeWord}
 use Rattle.steps.specs.Steps.{stepFrame}
-use Rattle.steps.specs.declared.Heard.{Heard}
-use Rattle.crate_pass.specs.Crate.{Moved, replyOnPaper}
+use Rattle.steps.specs.declared.Judged.{Judged}
+use Rattle.crate_pass.specs.Crate.{Moved, replyMeaning}
 use Rattle.crate_pass.specs.declared.Outcome.{Outcome}
 use Rattle.four_crates.specs.FourCrates.{servedRules, movedOn, servedAnswer, sentOn}
 use Rattle.board.specs.State.{crateAt, withCrates}
@@ -24,24 +24,24 @@ frameAt β i = stepFrame (β .block) i (crateAt β i .board) (crateAt β i .code
 
 -- ---- replies and time-ups
 
--- what is heard on crate i moves that crate
-abbrev pub movedAt : Board → ℕ → Heard → Moved
+-- a reply or a time-up on crate i, once it is judged, moves that crate
+abbrev pub movedAt : Board → ℕ → Judged → Moved
 movedAt β i h = movedOn (β .crates) i (β .kind) (activeWord (β .block) i) h
 
-abbrev pub replyAnswer : Board → ℕ → Heard → Answer Outcome
+abbrev pub replyAnswer : Board → ℕ → Judged → Answer Outcome
 replyAnswer β i h = servedAnswer (β .crates) i (β .kind) (activeWord (β .block) i) h
 
 -- "The four crates proceed apart": one changes, and nothing else
-abbrev pub afterReply : Board → ℕ → Heard → Answer Outcome → Board
+abbrev pub afterReply : Board → ℕ → Judged → Answer Outcome → Board
 afterReply β i h (given o) = withCrates β (set (β .crates) i (movedAt β i h .state))
 afterReply β i h (refused n p) = β
 
-unfoldable pub boardReplied : Board → ℕ → Heard → Board
+unfoldable pub boardReplied : Board → ℕ → Judged → Board
 boardReplied β i h = afterReply β i h (replyAnswer β i h)
 
--- the board answered r to what was heard on crate i
-pub record Replies (β : Board) (i : ℕ) (h : Heard) (r : Replied) : Type 0 where
-  pub answer : replyOnPaper (r .answer) ≡ replyAnswer β i h
+-- the board answered r to a reply or a time-up on crate i, judged as h
+pub record Replies (β : Board) (i : ℕ) (h : Judged) (r : Replied) : Type 0 where
+  pub answer : replyMeaning (r .answer) ≡ replyAnswer β i h
   pub board : r .board ≡ boardReplied β i h
 
 -- ---- the number of frames sent on a crate

@@ -1,11 +1,12 @@
 -- 01, What we build: the state, and the board that power-up gives.
-use Prim.Native.Nat.{ℕ, _^_}
+use Prim.Native.Nat.{ℕ}
 use mathlib.Core.Path.{_≡_}
 use mathlib.Core.Bool.{Bool, not, _&&_}
 use mathlib.Core.List.{List, [], _∷_}
 use lib.Dec.{leb}
 use lib.ListN.{replicate}
-use Rattle.refusals.specs.Tables.{Answer, given, refused, Rule, rule, lowest, onPaper}
+use Rattle.refusals.specs.Tables.{Answer, given, refused, Rule, rule, lowest, refusalMeaning}
+use Rattle.numbers.specs.Numbers.{idLimit}
 use Rattle.configuration.specs.Configuration.{activeWord}
 use Rattle.run.specs.Run.{isRunning, atPowerUp}
 use Rattle.run.specs.declared.Run.{Run}
@@ -13,7 +14,7 @@ use Rattle.crate_pass.specs.Crate.{crateAtPowerUp}
 use Rattle.crate_pass.specs.declared.PassKind.the-variants.{Reprogramming}
 use Rattle.crate_pass.specs.declared.Crate.{Crate}
 use Rattle.four_crates.specs.FourCrates.{crateOf, inPass}
-use Rattle.acceptance.specs.declared.Situation.{Situation}
+use Rattle.acceptance.specs.declared.Status.{Status}
 use Rattle.board.specs.declared.Board.{Board}
 use Rattle.board.specs.declared.PowerUp.{PowerUp}
 use Rattle.board.specs.declared.PowerUp.the-variants.{Up, Refused}
@@ -33,8 +34,8 @@ abbrev pub isIdle : Board → Bool
 isIdle β = not (isRunning (β .run)) && not (inPass (β .crates))
 
 -- what the state is to a command
-abbrev pub situationOf : Board → Situation
-situationOf β = record { idle = isIdle β; running = isRunning (β .run); fresh = β .run .fresh }
+abbrev pub statusOf : Board → Status
+statusOf β = record { idle = isIdle β; running = isRunning (β .run); fresh = β .run .fresh }
 
 -- the same board with another run, and with other crates
 unfoldable pub withRun : Board → Run → Board
@@ -59,11 +60,11 @@ freshBoard id firmware =
 
 -- "a board ID at or above 2^57 gets 20"
 abbrev pub powerUpRules : ℕ → List Rule
-powerUpRules id = rule 20 (leb (2 ^ 57) id) ∷ []
+powerUpRules id = rule 20 (leb idLimit id) ∷ []
 
-abbrev pub powerUpOnPaper : PowerUp → Answer Unit
-powerUpOnPaper Up = given tt
-powerUpOnPaper (Refused r) = onPaper r
+abbrev pub powerUpMeaning : PowerUp → Answer Unit
+powerUpMeaning Up = given tt
+powerUpMeaning (Refused r) = refusalMeaning r
 
 -- ".. and no board": one of ID 0 stands where there is none
 abbrev pub boardFor : Answer Unit → ℕ → ℕ → Board
@@ -75,5 +76,5 @@ powerUpAnswer id = lowest (powerUpRules id) tt
 
 -- power-up answered r
 pub record PowersUp (id firmware : ℕ) (r : PoweredUp) : Type 0 where
-  pub answer : powerUpOnPaper (r .answer) ≡ powerUpAnswer id
+  pub answer : powerUpMeaning (r .answer) ≡ powerUpAnswer id
   pub board : r .board ≡ boardFor (powerUpAnswer id) id firmware

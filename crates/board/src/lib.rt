@@ -1,24 +1,23 @@
 // The board: its state, and every call on it in the order of 01.
 ghost use mathlib.Core.Path.{_≡_};
 ghost use mathlib.Core.Bool.{true, cond};
-ghost use mathlib.Core.List.{[]};
 ghost use Prim.Native.Nat.{_≤_};
 ghost use lib.ListN.{length};
 ghost use Rattle.refusals.specs.Tables.{given};
 ghost use Rattle.refusals.specs.Writing.{Wrote};
 ghost use Rattle.configuration.specs.Configuration.{activeWord};
 ghost use Rattle.commands.specs.declared.Command.the-variants.{Write};
-ghost use Rattle.acceptance.specs.Acceptance.{answerOnPaper};
+ghost use Rattle.acceptance.specs.Acceptance.{answerMeaning};
 ghost use Rattle.run.specs.Run.{clockedRun, refreshed};
 ghost use Rattle.crate_pass.specs.declared.PassKind.the-variants.{Reprogramming, Ping};
-ghost use Rattle.steps.specs.Steps.{heardIn, silence};
-ghost use Rattle.four_crates.specs.FourCrates.{sentOnPaper};
-ghost use Rattle.board.specs.State.{activeWords, isIdle, situationOf, withRun, freshBoard, PowersUp};
+ghost use Rattle.steps.specs.Steps.{judgedReply, noReply};
+ghost use Rattle.four_crates.specs.FourCrates.{sentMeaning};
+ghost use Rattle.board.specs.State.{activeWords, isIdle, statusOf, withRun, freshBoard, PowersUp};
 ghost use Rattle.board.specs.Commands.{written, pinged, afterCommand, Obeys, TriggersOn};
 ghost use Rattle.board.specs.SlowControl.{frameAt, Replies, fetchRules, sentAnswer};
 ghost use Rattle.board.specs.SentOut.{headerOf, SendsStatic, SendsDynamic, SendsList, SendsFailure};
 use acceptance::CommandAnswer;
-use acceptance::Situation;
+use acceptance::Status;
 use acceptance::decide;
 use blocks::Header;
 use blocks::write_dynamic;
@@ -41,13 +40,14 @@ use four_crates::record_at;
 use four_crates::sent_on;
 use ftu_list::FtuList;
 use ftu_list::write_list;
+use numbers::ID_LIMIT;
 use packets::Fields;
 use refusals::Refusal;
 use refusals::Written;
 use run::Run;
 use run::run_at_power_up;
-use steps::hear_step;
-use steps::nothing_heard;
+use steps::judge_reply;
+use steps::no_reply;
 use steps::step_frame;
 use steps::write_frame;
 use words::copy_words;
@@ -86,7 +86,7 @@ pub struct PoweredUp {
     pub answer: PowerUp,
 }
 
-pub struct Obedience {
+pub struct CommandResult {
     pub board: Board,
     pub answer: CommandAnswer,
     // The words that the command used.
@@ -126,7 +126,7 @@ fn fresh_board(board_id: u64, firmware_id: u16) -> Board
 pub fn power_up(board_id: u64, firmware_id: u16) -> PoweredUp
     ensures { λ r. ⌜ PowersUp «board_id» «firmware_id» r ⌝ }
 {
-    if 144115188075855872 <= board_id {
+    if ID_LIMIT <= board_id {
         return PoweredUp {
             board: fresh_board(0, 0),
             answer: PowerUp::Refused(Refusal::WrongHeader),
@@ -218,11 +218,11 @@ impl Board {
     }
 
     // What the state is to a command.
-    fn situation(self) -> Situation
-        ensures { λ r. ⌜ r ≡ situationOf self ⌝ }
+    fn status(self) -> Status
+        ensures { λ r. ⌜ r ≡ statusOf self ⌝ }
     {
         let run = self.run;
-        Situation {
+        Status {
             idle: self.is_idle(),
             running: run.is_running(),
             fresh: run.fresh,
@@ -266,8 +266,8 @@ impl Board {
 
     // Does what an obeyed command says, whose block is given. A read, a crate reset and a refusal change nothing.
     fn carry_out(mut self, answer: CommandAnswer, block: &[u16]) -> Board
-        requires { ⌜ (answerOnPaper answer ≡ given Write → length (now block) ≡ 436) ⌝ }
-        ensures { λ r. ⌜ r ≡ afterCommand self (now (block .entry)) (answerOnPaper answer) ⌝ }
+        requires { ⌜ (answerMeaning answer ≡ given Write → length (now block) ≡ 436) ⌝ }
+        ensures { λ r. ⌜ r ≡ afterCommand self (now (block .entry)) (answerMeaning answer) ⌝ }
     {
         let run = self.run;
         match answer {
@@ -284,14 +284,14 @@ impl Board {
     }
 
     // The first command of the words.
-    pub fn obey(self, words: &[u16]) -> Obedience
+    pub fn obey(self, words: &[u16]) -> CommandResult
         ensures { λ r. ⌜ Obeys self (now (words .entry)) r ⌝ }
     {
-        let decision = decide(words, self.situation());
+        let decision = decide(words, self.status());
         let answer = decision.answer;
         let used = decision.used;
         let block = block_before(words, used);
-        Obedience {
+        CommandResult {
             board: self.carry_out(answer, block),
             answer,
             used,
@@ -323,7 +323,7 @@ impl Board {
     // A reply, of any length, on a crate. One way out and constant places, so that little of the board is copied. (Where there is no such
     // crate, the fourth is served, and what came of it is dropped.)
     pub fn reply(mut self, index: u8, bytes: &[u8]) -> Replied
-        ensures { λ r. ⌜ Replies self index (heardIn (frameAt self index) (now (bytes .entry))) r ⌝ }
+        ensures { λ r. ⌜ Replies self index (judgedReply (frameAt self index) (now (bytes .entry))) r ⌝ }
     {
         let kind = self.kind;
         let block = self.block;
@@ -338,8 +338,8 @@ impl Board {
             2 => third,
             _ => fourth,
         };
-        let heard = hear_step(&block, index, own.board, own.code, bytes);
-        let served = own.serve(kind, word, heard);
+        let judged = judge_reply(&block, index, own.board, own.code, bytes);
+        let served = own.serve(kind, word, judged);
         let after = served.state;
         let mut answer = served.answer;
         match index {
@@ -357,7 +357,7 @@ impl Board {
 
     // A time-up on a crate, in the same way.
     pub fn time_up(mut self, index: u8) -> Replied
-        ensures { λ r. ⌜ Replies self index silence r ⌝ }
+        ensures { λ r. ⌜ Replies self index noReply r ⌝ }
     {
         let kind = self.kind;
         let block = self.block;
@@ -368,8 +368,8 @@ impl Board {
             2 => self.crates[2],
             _ => self.crates[3],
         };
-        let heard = nothing_heard();
-        let served = own.serve(kind, word, heard);
+        let judged = no_reply();
+        let served = own.serve(kind, word, judged);
         let state = served.state;
         let mut answer = served.answer;
         match index {
@@ -402,7 +402,7 @@ impl Board {
 
     // The number of frames sent on a crate in this pass, or in the last.
     pub fn frames_sent(self, index: u8) -> FramesSent
-        ensures { λ r. ⌜ sentOnPaper r ≡ sentAnswer self index ⌝ }
+        ensures { λ r. ⌜ sentMeaning r ≡ sentAnswer self index ⌝ }
     {
         let crates = self.crates;
         sent_on(crates, index)

@@ -9,20 +9,20 @@ use lib.ListN.{length}
 use borrow.Author.Tests.{lt-ltb, le-ltb, ltb-true, ltb-false}
 use Rattle.refusals.specs.Tables.{Rule, lowest}
 use Rattle.refusals.proofs.Tables.{Exactly, exactly, given-clear, refused-applies}
-use Rattle.bounds.specs.Bounds.{lowestAbove, aboveBound, checkedOnPaper, boundsAnswer}
+use Rattle.bounds.specs.Bounds.{lowestAbove, aboveBound, checkedMeaning, boundsAnswer}
 use Rattle.bounds.specs.declared.BoundsChecked.{BoundsChecked}
 use Rattle.bounds.specs.declared.BoundsChecked.the-variants.{Within, Above}
 
 -- ---- a check whose answer is that of one row
 
-module _ (row : Rule) (r : BoundsChecked) (e : checkedOnPaper r ≡ lowest (row ∷ []) tt) where
+module _ (row : Rule) (r : BoundsChecked) (e : checkedMeaning r ≡ lowest (row ∷ []) tt) where
   -- a word is above its bound: the row applies, with the place
   pub row-above : (p : ℕ) → r ≡ Above p → (row .applies ≡ true) × (row .number ≡ 8) × (row .place ≡ p)
-  row-above p q = ⊎-elim (λ a. a) (λ a. absurd a) (refused-applies (row ∷ []) tt 8 p (sym e ∙ ap checkedOnPaper q))
+  row-above p q = ⊎-elim (λ a. a) (λ a. absurd a) (refused-applies (row ∷ []) tt 8 p (sym e ∙ ap checkedMeaning q))
 
   -- each is within it: the row does not apply
   pub row-within : r ≡ Within → row .applies ≡ false
-  row-within q = given-clear (row ∷ []) tt tt (sym e ∙ ap checkedOnPaper q) .0
+  row-within q = given-clear (row ∷ []) tt tt (sym e ∙ ap checkedMeaning q) .0
 
 -- ---- the check of a list
 
@@ -34,16 +34,16 @@ module _ (bound : ℕ → ℕ) (l : List ℕ) where
 
   -- the search gave p
   module _ (p : ℕ) (e : p ≡ lowestAbove bound 0 l) where
-    pub answer-above : p < length l → checkedOnPaper (Above p) ≡ boundsAnswer bound l
+    pub answer-above : p < length l → checkedMeaning (Above p) ≡ boundsAnswer bound l
     unfolding boundsAnswer
     answer-above a = rw e (simp (lt-ltb _ _ (rw e at a)))
 
-    pub answer-within : length l ≤ p → checkedOnPaper Within ≡ boundsAnswer bound l
+    pub answer-within : length l ≤ p → checkedMeaning Within ≡ boundsAnswer bound l
     unfolding boundsAnswer
     answer-within a = simp (le-ltb _ _ (rw e at a))
 
   -- the check found r
-  module _ (r : BoundsChecked) (e : checkedOnPaper r ≡ boundsAnswer bound l) where
+  module _ (r : BoundsChecked) (e : checkedMeaning r ≡ boundsAnswer bound l) where
     pub checked-above : (p : ℕ) → r ≡ Above p → (p ≡ lowestAbove bound 0 l) × (p < length l)
     unfolding boundsAnswer
     checked-above p q =

@@ -2,7 +2,8 @@
 ghost use mathlib.Core.Path.{_≡_};
 ghost use Rattle.refusals.specs.Tables.{given};
 ghost use Rattle.words.specs.Parts.{PartOf};
-ghost use Rattle.command_reader.specs.Reading.{spareSet, countIn, Marked, readOnPaper, commandAnswer, usedOf, blockBefore, restAfter, ReadsCommand};
+ghost use Rattle.command_reader.specs.Reading.{spareSet, countIn, readMeaning, commandAnswer, usedOf, blockBefore, restAfter, ReadsCommand};
+ghost use Rattle.command_reader.specs.CodeShape.{FirstWordsRead};
 use bounds::Bounded;
 use bounds::BoundsChecked;
 use bounds::check_bounds;
@@ -39,8 +40,8 @@ fn spare_set(words: &[u16]) -> bool
 
 // Reads the rest of the command c, which the first three words name.
 fn read_listed(words: &[u16], c: Command) -> CommandRead
-    requires { ⌜ Marked (now words) (given c) ⌝ }
-    ensures { λ r. ⌜ readOnPaper r ≡ commandAnswer (now (words .entry)) ⌝ }
+    requires { ⌜ FirstWordsRead (now words) (given c) ⌝ }
+    ensures { λ r. ⌜ readMeaning r ≡ commandAnswer (now (words .entry)) ⌝ }
 {
     if spare_set(words) {
         return CommandRead::Refused(Refusal::SpareWordNotZero);
@@ -65,7 +66,7 @@ fn read_listed(words: &[u16], c: Command) -> CommandRead
 
 // Reads the command that the words begin with.
 pub fn read_command(words: &[u16]) -> CommandRead
-    ensures { λ r. ⌜ readOnPaper r ≡ commandAnswer (now (words .entry)) ⌝ }
+    ensures { λ r. ⌜ readMeaning r ≡ commandAnswer (now (words .entry)) ⌝ }
 {
     if words.len() < 5 {
         return CommandRead::Refused(Refusal::TooFewWords);
@@ -83,7 +84,7 @@ pub fn read_command(words: &[u16]) -> CommandRead
 impl CommandRead {
     // The words that a command used.
     pub fn used(self) -> usize
-        ensures { λ r. ⌜ r ≡ usedOf (readOnPaper self) ⌝ }
+        ensures { λ r. ⌜ r ≡ usedOf (readMeaning self) ⌝ }
     {
         match self {
             CommandRead::Accepted(_, used) => used,

@@ -8,7 +8,7 @@ use mathlib.Core.Logic.{inl, inr}
 use native.Mathlib.Omega.{arith}
 use lib.ListN.{length, replicate}
 use Rattle.refusals.specs.Tables.{Rule, refused}
-use Rattle.refusals.specs.Writing.{writingBy, writingRules, writtenOnPaper}
+use Rattle.refusals.specs.Writing.{writingBy, writingRules, writtenMeaning}
 use Rattle.refusals.specs.declared.Written.{Written}
 use Rattle.refusals.proofs.Tables.{Applies, refused-applies}
 use Rattle.bounds.specs.Bounds.{boundOf, lentRules}
@@ -45,7 +45,7 @@ rows Ping b out = refl
 rows (CrateReset c) b out = refl
 
 only-these : (c : Command) (b out : List ℕ) (r : Written) (after : List ℕ) → WroteCommand c b out r after
-    → (n p : ℕ) → writtenOnPaper r ≡ refused n p → oneOf numbersGiven n ≡ true
+    → (n p : ℕ) → writtenMeaning r ≡ refused n p → oneOf numbersGiven n ≡ true
 unfolding writingBy
 only-these c b out r after w n p e =
     let rules = writingRules (writeRules c b) (commandWords c b) out in

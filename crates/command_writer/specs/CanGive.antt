@@ -5,7 +5,7 @@ use mathlib.Core.Bool.{Bool, true, false, _||_}
 use mathlib.Core.List.{List, [], _∷_}
 use lib.Dec.{eqb}
 use Rattle.refusals.specs.Tables.{refused}
-use Rattle.refusals.specs.Writing.{writing, writtenOnPaper}
+use Rattle.refusals.specs.Writing.{writing, writtenMeaning}
 use Rattle.refusals.specs.declared.Written.{Written}
 use Rattle.commands.specs.declared.Command.{Command}
 use Rattle.command_writer.specs.Writing.{commandWords, writeRules, WroteCommand}
@@ -33,5 +33,5 @@ EachGiven (n ∷ ns) = GivenFor n × EachGiven ns
 -- of what the writer promises: a refusal has one of these numbers, and each of them is given
 pub record CanGive (numbers : List ℕ) : Type 0 where
   pub only : (c : Command) (b out : List ℕ) (r : Written) (after : List ℕ) → WroteCommand c b out r after
-      → (n p : ℕ) → writtenOnPaper r ≡ refused n p → oneOf numbers n ≡ true
+      → (n p : ℕ) → writtenMeaning r ≡ refused n p → oneOf numbers n ≡ true
   pub each : EachGiven numbers

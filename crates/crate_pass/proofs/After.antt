@@ -5,19 +5,19 @@ use mathlib.Core.Path.{_≡_, refl}
 use mathlib.Core.Bool.{Bool, true, false, cond}
 use lib.Dec.{ltb}
 use borrow.Author.Tests.{ltb-true, ltb-false, leb-false}
-use Rattle.steps.specs.declared.Heard.{Heard}
+use Rattle.steps.specs.declared.Judged.{Judged}
 use Rattle.crate_pass.specs.declared.PassKind.{PassKind}
 use Rattle.crate_pass.specs.declared.Crate.{Crate}
-use Rattle.crate_pass.specs.Crate.{isDone, placed, advanced, stepped, noted, marked, passed, missed, moved, crateAfter}
+use Rattle.crate_pass.specs.Crate.{isDone, placed, advanced, stepped, noted, withRecord, passed, missed, moved, crateAfter}
 
-module _ (kind : PassKind) (w : ℕ) (k : Crate) (h : Heard) (P : Crate → Type 0) where
+module _ (kind : PassKind) (w : ℕ) (k : Crate) (h : Judged) (P : Crate → Type 0) where
   -- P holds of the crate where nothing is outstanding, after a good reply, and after another or none
   pub record Each : Type 0 where
     pub done : P k
     pub next-step : k .board < 10 → h .good ≡ true → k .code < 3 → P (placed (noted k h) (k .board) (k .code + 1) 0)
     pub next-board : k .board < 10 → h .good ≡ true → 3 ≤ k .code → P (advanced kind w (noted k h))
     pub again : k .board < 10 → k .tries < 2 → P (placed k (k .board) (k .code) (k .tries + 1))
-    pub failed : k .board < 10 → 2 ≤ k .tries → P (advanced kind w (marked k))
+    pub failed : k .board < 10 → 2 ≤ k .tries → P (advanced kind w (withRecord k))
 
   module _ (each : Each) where
     after-good : k .board < 10 → h .good ≡ true → P (passed kind w k h .state)

@@ -7,11 +7,11 @@ use native.Mathlib.Omega.{arith}
 use lib.ListN.{length, getD, set, replicate}
 use borrow.Author.Tests.{ne-eqb}
 use Rattle.ftu_list.specs.declared.Entry.{Entry}
-use Rattle.steps.specs.declared.Heard.{Heard}
+use Rattle.steps.specs.declared.Judged.{Judged}
 use Rattle.crate_pass.specs.declared.PassKind.{PassKind}
 use Rattle.crate_pass.specs.declared.PassKind.the-variants.{Reprogramming, Ping}
 use Rattle.crate_pass.specs.declared.Crate.{Crate}
-use Rattle.crate_pass.specs.Crate.{silent, asEntries, entriesIn, begunCrate, placed, advanced, notedIn, noted, marked, crateAfter}
+use Rattle.crate_pass.specs.Crate.{silent, asEntries, entriesIn, begunCrate, placed, advanced, notedIn, noted, withRecord, crateAfter}
 use Rattle.crate_pass.proofs.After.{after-any}
 
 abbrev pub entry : ℕ → ℕ → ℕ → Entry
@@ -49,8 +49,8 @@ unfolding begunCrate
 entries-kept w k = refl
 
 -- a reply or a time-up leaves the list as it was, where the frame was not a ping
-pub entries-stay : (kind : PassKind) (w : ℕ) (k : Crate) (h : Heard) → (k .code ≡ 4 → ⊥) → entriesIn (crateAfter kind w k h) ≡ entriesIn k
-unfolding noted notedIn marked advanced placed
+pub entries-stay : (kind : PassKind) (w : ℕ) (k : Crate) (h : Judged) → (k .code ≡ 4 → ⊥) → entriesIn (crateAfter kind w k h) ≡ entriesIn k
+unfolding noted notedIn withRecord advanced placed
 entries-stay kind w k h n =
     after-any kind w k h (λ (q : Crate). entriesIn q ≡ entriesIn k)
     (record {

@@ -5,4 +5,4 @@ pub mod After
 pub mod Entries
 pub mod Sound
 pub mod Tables
-pub mod Apart
+pub mod Injective

@@ -8,17 +8,17 @@ use lib.Dec.{ltb, leb}
 use lib.ListN.{set}
 use borrow.Author.Tests.{lt-ltb, le-ltb, lt-leb, ne-eqb}
 use Rattle.refusals.specs.declared.Refusal.the-variants.{NothingOutstanding}
-use Rattle.steps.specs.declared.Heard.{Heard}
+use Rattle.steps.specs.declared.Judged.{Judged}
 use Rattle.crate_pass.specs.declared.PassKind.{PassKind}
 use Rattle.crate_pass.specs.declared.ReplyAnswer.the-variants.{Served, Refused}
 use Rattle.crate_pass.specs.declared.Crate.{Crate}
 use Rattle.crate_pass.specs.declared.Place.{Place}
 use Rattle.crate_pass.specs.declared.Outcome.the-variants.{Good, Again, BoardFailed}
-use Rattle.crate_pass.specs.Crate.{isDone, countedFrame, callsAt, notedIn, placed, advanced, stepped, noted, marked}
+use Rattle.crate_pass.specs.Crate.{isDone, countedFrame, callsAt, notedIn, placed, advanced, stepped, noted, withRecord}
 use Rattle.crate_pass.specs.Crate.{Moved, passed, missed, moved, crateAnswer, crateAfter, Serves}
-use Rattle.crate_pass.specs.NextPlace.{nextPlace, placeAfter}
+use Rattle.crate_pass.specs.CodeShape.{nextPlace, placeAfter}
 
-module _ (kind : PassKind) (w : ℕ) (k : Crate) (h : Heard) where
+module _ (kind : PassKind) (w : ℕ) (k : Crate) (h : Judged) where
   pub serves-none : isDone k ≡ true → Serves kind w k h (record { state = k; answer = Refused NothingOutstanding })
   unfolding crateAnswer crateAfter
   serves-none d = record { answer = rw d; state = rw d }
@@ -67,5 +67,5 @@ module _ (kind : PassKind) (w : ℕ) (k : Crate) (h : Heard) where
           state = crateWith (k .dna) (k .calls) (k .«crc_errors») (set (k .failed) (k .board) (k .code));
           answer = Served (BoardFailed (leb 10 (to .board)));
         })
-    unfolding placeAfter nextPlace missed marked advanced placed
+    unfolding placeAfter nextPlace missed withRecord advanced placed
     serves-failed g l = rw (en, et) (serves-moved _ (lt-leb _ _ d) (rw (g, le-ltb _ _ l) refl))

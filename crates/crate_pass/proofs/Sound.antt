@@ -1,6 +1,6 @@
 -- A crate is sound at power-up, as a pass begins, and after a reply or a time-up (`sound-power-up`, `sound-begun`, `sound-after`).
 -- Assumes nothing.
-use Prim.Native.Nat.{ℕ, zero, suc, _+_, _-_, _<_, _≤_, _^_}
+use Prim.Native.Nat.{ℕ, zero, suc, _+_, _-_, _<_, _≤_}
 use mathlib.Core.Path.{_≡_, refl, sym, _∙_, subst}
 use mathlib.Core.Bool.{Bool, true, false, cond}
 use mathlib.Core.List.{List, [], _∷_}
@@ -9,12 +9,13 @@ use native.Mathlib.Omega.{arith}
 use lib.Dec.{ltb, eqb}
 use lib.ListN.{length, getD, set, replicate, length-set}
 use borrow.Author.Tests.{ltb-true, eqb-true}
-use Rattle.steps.specs.declared.Heard.{Heard}
+use Rattle.numbers.specs.Numbers.{idLimit}
+use Rattle.steps.specs.declared.Judged.{Judged}
 use Rattle.crate_pass.specs.declared.PassKind.{PassKind}
 use Rattle.crate_pass.specs.declared.PassKind.the-variants.{Reprogramming, Ping}
 use Rattle.crate_pass.specs.declared.Crate.{Crate}
 use Rattle.crate_pass.specs.Crate.{serves, firstServed, nextBoard, firstCode, crateAtPowerUp, kept, begunCrate}
-use Rattle.crate_pass.specs.Crate.{placed, advanced, callsAt, notedIn, noted, marked, crateAfter}
+use Rattle.crate_pass.specs.Crate.{placed, advanced, callsAt, notedIn, noted, withRecord, crateAfter}
 use Rattle.crate_pass.specs.Sound.{IsCode, CallsKept, DnaKept, FailedIn, SoundCrate}
 use Rattle.crate_pass.proofs.After.{after-any}
 
@@ -130,8 +131,8 @@ module _ (kind : PassKind) (w : ℕ) where
       let b = nextBoard kind w (k .board + 1) in
       sound-placed k b (firstCode kind) 0 (next-most kind w (k .board + 1)) (λ h. first-is kind) (omega arith) s
 
-  sound-marked : (k : Crate) → k .board < 10 → SoundCrate kind k → SoundCrate kind (marked k)
-  unfolding marked
+  sound-marked : (k : Crate) → k .board < 10 → SoundCrate kind k → SoundCrate kind (withRecord k)
+  unfolding withRecord
   sound-marked k h s =
       record {
         length-dna = s .length-dna;
@@ -146,7 +147,7 @@ module _ (kind : PassKind) (w : ℕ) where
         failed = each-set (FailedIn kind) (k .failed) (k .board) (k .code) (inr (s .code h)) (s .failed);
       }
 
-  module _ (k : Crate) (h : Heard) where
+  module _ (k : Crate) (h : Judged) where
     length-noted : (l : List ℕ) (n : ℕ) → length l ≡ 10 → length (notedIn k l n) ≡ 10
     unfolding notedIn
     length-noted l n e = go (eqb (k .code) 4)
@@ -164,7 +165,7 @@ module _ (kind : PassKind) (w : ℕ) where
         go false e = f b
 
     -- a good reply to a ping carries a DNA "below 2^57"
-    module _ (below : k .code ≡ 4 → h .good ≡ true → h .dna < 2 ^ 57) where
+    module _ (below : k .code ≡ 4 → h .good ≡ true → h .dna < idLimit) where
       sound-noted : h .good ≡ true → SoundCrate kind k → SoundCrate kind (noted k h)
       unfolding noted
       sound-noted g s =
@@ -191,5 +192,5 @@ module _ (kind : PassKind) (w : ℕ) where
                 (sound-noted g s);
             next-board = λ d g l. sound-advanced (noted k h) (sound-noted g s);
             again = λ d l. sound-placed k (k .board) (k .code) (k .tries + 1) (s .board) (s .code) (omega arith) s;
-            failed = λ d l. sound-advanced (marked k) (sound-marked k d s);
+            failed = λ d l. sound-advanced (withRecord k) (sound-marked k d s);
           })

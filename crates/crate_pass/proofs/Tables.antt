@@ -5,12 +5,12 @@ use mathlib.Core.Path.{_≡_, refl}
 use mathlib.Core.Bool.{Bool, true, false}
 use Rattle.refusals.specs.Tables.{refused}
 use Rattle.refusals.proofs.Tables.{Exactly, exactly, given≢refused}
-use Rattle.steps.specs.declared.Heard.{Heard}
+use Rattle.steps.specs.declared.Judged.{Judged}
 use Rattle.crate_pass.specs.declared.PassKind.{PassKind}
 use Rattle.crate_pass.specs.declared.Crate.{Crate}
 use Rattle.crate_pass.specs.Crate.{isDone, moved, crateRules, crateAnswer, crateAfter}
 
-module _ (kind : PassKind) (w : ℕ) (k : Crate) (h : Heard) where
+module _ (kind : PassKind) (w : ℕ) (k : Crate) (h : Judged) where
   pub crate-exactly : Exactly (crateRules k) (moved kind w k h .outcome) (crateAnswer kind w k h)
   unfolding crateAnswer
   crate-exactly = exactly (crateRules k) (moved kind w k h .outcome) tt

@@ -5,10 +5,10 @@ use mathlib.Core.Bool.{Bool, true, false, cond}
 use mathlib.Core.List.{List, [], _∷_}
 use lib.Dec.{ltb, leb, eqb}
 use lib.ListN.{set, replicate}
-use Rattle.refusals.specs.Tables.{Answer, given, Rule, rule, lowest, onPaper}
+use Rattle.refusals.specs.Tables.{Answer, given, Rule, rule, lowest, refusalMeaning}
 use Rattle.configuration.specs.Configuration.{flagSet}
 use Rattle.ftu_list.specs.declared.Entry.{Entry}
-use Rattle.steps.specs.declared.Heard.{Heard}
+use Rattle.steps.specs.declared.Judged.{Judged}
 use Rattle.crate_pass.specs.declared.PassKind.{PassKind}
 use Rattle.crate_pass.specs.declared.PassKind.the-variants.{Reprogramming, Ping}
 use Rattle.crate_pass.specs.declared.Outcome.{Outcome}
@@ -133,7 +133,7 @@ unfoldable pub notedIn : Crate → List ℕ → ℕ → List ℕ
 notedIn k ns n = cond (eqb (k .code) 4) (set ns (k .board) n) ns
 
 -- the list with an entry for the board: the calls that it needed, its DNA, and its CRC errors
-unfoldable pub noted : Crate → Heard → Crate
+unfoldable pub noted : Crate → Judged → Crate
 noted k h =
     record {
       dna = notedIn k (k .dna) (h .dna);
@@ -147,8 +147,8 @@ noted k h =
     }
 
 -- "the board gets a failure record": the code of the step that failed
-unfoldable pub marked : Crate → Crate
-marked k =
+unfoldable pub withRecord : Crate → Crate
+withRecord k =
     record {
       dna = k .dna;
       calls = k .calls;
@@ -168,40 +168,40 @@ pub record Moved : Type 0 where
   pub state : Crate
 
 -- an outcome says "whether the crate is done"
-abbrev pub told : (Bool → Outcome) → Crate → Moved
-told outcome k = record { outcome = outcome (isDone k); state = k }
+abbrev pub withOutcome : (Bool → Outcome) → Crate → Moved
+withOutcome outcome k = record { outcome = outcome (isDone k); state = k }
 
 -- "A good reply moves to the next step"
-unfoldable pub passed : PassKind → ℕ → Crate → Heard → Moved
-passed kind w k h = told Good (stepped kind w (noted k h))
+unfoldable pub passed : PassKind → ℕ → Crate → Judged → Moved
+passed kind w k h = withOutcome Good (stepped kind w (noted k h))
 
 -- "A bad reply, or a time-up, sends again; after the third send of a step fails, the board gets a failure record and its other steps are
 -- dropped"
 unfoldable pub missed : PassKind → ℕ → Crate → Moved
 missed kind w k =
     cond (ltb (k .tries) 2)
-    (told Again (placed k (k .board) (k .code) (k .tries + 1)))
-    (told BoardFailed (advanced kind w (marked k)))
+    (withOutcome Again (placed k (k .board) (k .code) (k .tries + 1)))
+    (withOutcome BoardFailed (advanced kind w (withRecord k)))
 
-abbrev pub moved : PassKind → ℕ → Crate → Heard → Moved
+abbrev pub moved : PassKind → ℕ → Crate → Judged → Moved
 moved kind w k h = cond (h .good) (passed kind w k h) (missed kind w k)
 
 -- an answer as 01 has it
-abbrev pub replyOnPaper : ReplyAnswer → Answer Outcome
-replyOnPaper (Served o) = given o
-replyOnPaper (Refused r) = onPaper r
+abbrev pub replyMeaning : ReplyAnswer → Answer Outcome
+replyMeaning (Served o) = given o
+replyMeaning (Refused r) = refusalMeaning r
 
 -- "12: nothing outstanding there"
 abbrev pub crateRules : Crate → List Rule
 crateRules k = rule 12 (isDone k) ∷ []
 
-unfoldable pub crateAnswer : PassKind → ℕ → Crate → Heard → Answer Outcome
+unfoldable pub crateAnswer : PassKind → ℕ → Crate → Judged → Answer Outcome
 crateAnswer kind w k h = lowest (crateRules k) (moved kind w k h .outcome)
 
-unfoldable pub crateAfter : PassKind → ℕ → Crate → Heard → Crate
+unfoldable pub crateAfter : PassKind → ℕ → Crate → Judged → Crate
 crateAfter kind w k h = cond (isDone k) k (moved kind w k h .state)
 
 -- the crate answered r
-pub record Serves (kind : PassKind) (w : ℕ) (k : Crate) (h : Heard) (r : CrateServed) : Type 0 where
-  pub answer : replyOnPaper (r .answer) ≡ crateAnswer kind w k h
+pub record Serves (kind : PassKind) (w : ℕ) (k : Crate) (h : Judged) (r : CrateServed) : Type 0 where
+  pub answer : replyMeaning (r .answer) ≡ crateAnswer kind w k h
   pub state : r .state ≡ crateAfter kind w k h

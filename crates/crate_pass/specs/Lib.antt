@@ -1,4 +1,4 @@
 -- What the contracts cite.
 pub mod Crate
-pub mod NextPlace
+pub mod CodeShape
 pub mod Sound

@@ -1,8 +1,9 @@
 -- 01, Slow control: what holds of a crate in every state that a board reaches from power-up (crates/reachable).
-use Prim.Native.Nat.{ℕ, _<_, _≤_, _^_}
+use Prim.Native.Nat.{ℕ, _<_, _≤_}
 use mathlib.Core.Path.{_≡_}
 use mathlib.Core.Logic.{_⊎_}
 use lib.ListN.{length, getD}
+use Rattle.numbers.specs.Numbers.{idLimit}
 use Rattle.crate_pass.specs.declared.PassKind.{PassKind}
 use Rattle.crate_pass.specs.declared.PassKind.the-variants.{Reprogramming, Ping}
 use Rattle.crate_pass.specs.declared.Crate.{Crate}
@@ -18,7 +19,7 @@ CallsKept calls = calls ≤ 3
 
 -- "eight bytes of DNA, high first, below 2^57"
 abbrev pub DnaKept : ℕ → Type 0
-DnaKept dna = dna < 2 ^ 57
+DnaKept dna = dna < idLimit
 
 -- "the board gets a failure record": the code of the step that failed, one of this pass, or 0 where none did
 abbrev pub FailedIn : PassKind → ℕ → Type 0

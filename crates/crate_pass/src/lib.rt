@@ -2,10 +2,10 @@
 ghost use mathlib.Core.Path.{_≡_};
 ghost use Prim.Native.Nat.{_<_};
 ghost use Rattle.crate_pass.specs.Crate.{nextBoard, firstCode, callsAt, clearsList, crateAtPowerUp, isDone, sentAt, begunCrate, countedFrame, Serves};
-ghost use Rattle.crate_pass.specs.NextPlace.{nextPlace, placeAfter};
+ghost use Rattle.crate_pass.specs.CodeShape.{nextPlace, placeAfter};
 use configuration::flag_set;
 use refusals::Refusal;
-use steps::Heard;
+use steps::Judged;
 
 pub enum PassKind {
     Reprogramming,
@@ -207,8 +207,8 @@ impl Crate {
 
     // What a reply or a time-up does to the crate, and what it gets. The crate is changed in place, in one function, so that it is not
     // copied from step to step.
-    pub fn serve(mut self, kind: PassKind, word: u16, heard: Heard) -> CrateServed
-        ensures { λ r. ⌜ Serves kind word self heard r ⌝ }
+    pub fn serve(mut self, kind: PassKind, word: u16, judged: Judged) -> CrateServed
+        ensures { λ r. ⌜ Serves kind word self judged r ⌝ }
     {
         let board = self.board;
         let code = self.code;
@@ -221,17 +221,17 @@ impl Crate {
             };
         }
         let at = board as usize;
-        let to = place_after(kind, word, Place { board, code, tries }, heard.good);
+        let to = place_after(kind, word, Place { board, code, tries }, judged.good);
         let done = 10 <= to.board;
         self.board = to.board;
         self.code = to.code;
         self.tries = to.tries;
         self.sent = count_frame(to.board, sent);
-        if heard.good {
+        if judged.good {
             if code == 4 {
-                self.dna[at] = heard.dna;
+                self.dna[at] = judged.dna;
                 self.calls[at] = calls_at(tries);
-                self.crc_errors[at] = heard.crc_errors;
+                self.crc_errors[at] = judged.crc_errors;
             }
             return CrateServed {
                 state: self,

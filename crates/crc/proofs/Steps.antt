@@ -14,7 +14,7 @@ use lib.ListN.{length, drop, getD, replicate, length-replicate, drop-of-length-l
 use lib.Pow.{pow-pos, shr-lt, split}
 use lib.Seq.{drop-cons}
 use Rattle.crc.specs.Crc.{crcByte, crcFrom, crc}
-use Rattle.crc.specs.Word.{crcWord}
+use Rattle.crc.specs.CodeShape.{crcWord}
 use Rattle.crc.proofs.Below.{allBelow, below}
 use Rattle.crc.proofs.Linear.{xors, crcByte-linear, crc-linear}
 use Rattle.crc.proofs.Xor.{digit, xor-swap}

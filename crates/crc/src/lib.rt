@@ -4,7 +4,7 @@ ghost use mathlib.Core.Path.{_≡_};
 ghost use mathlib.Core.List.{[], _∷_};
 ghost use lib.ListN.{length, drop, replicate};
 ghost use Rattle.crc.specs.Crc.{crcFrom, crc};
-ghost use Rattle.crc.specs.Word.{crcWord};
+ghost use Rattle.crc.specs.CodeShape.{crcWord};
 
 // The CRC of one byte, without a table: x^8 is x^2 + x + 1, and what that moves past the top is added first.
 fn crc_byte(byte: u8) -> u8

@@ -2,12 +2,12 @@
 -- Assumes nothing.
 use mathlib.Core.Path.{refl}
 use Rattle.crc.specs.Crc.{crcByte}
-use Rattle.packets.specs.Packets.{plain}
+use Rattle.packets.specs.Packets.{firstSix}
 use Rattle.bounds.specs.Bounds.{boundOf}
 use Rattle.commands.specs.Commands.{listedAs}
 use Rattle.command_reader.specs.Reading.{spareSet, readRules, commandAnswer}
 use Rattle.examples.specs.Examples.{AllHold, examples}
 
 pub examples-hold : AllHold examples
-unfolding crcByte plain boundOf listedAs spareSet readRules commandAnswer
+unfolding crcByte firstSix boundOf listedAs spareSet readRules commandAnswer
 examples-hold = (refl, (refl, (refl, (refl, (refl, (refl, (refl, (refl, (refl, (refl, (refl, (refl, (refl, tt)))))))))))))

@@ -9,43 +9,44 @@ use lib.ListN.{length, getD, take, drop}
 use borrow.Author.Tests.{eq-eqb}
 use Rattle.refusals.specs.Refusals.{numberOf, placeOf}
 use Rattle.refusals.specs.Tables.{Answer, given, refused, lowest}
-use Rattle.refusals.specs.Writing.{writtenOnPaper}
+use Rattle.refusals.specs.Writing.{writtenMeaning}
 use Rattle.refusals.specs.declared.Refusal.{Refusal}
 use Rattle.numbers.specs.Numbers.{number}
 use Rattle.numbers.proofs.Listed.{listed}
 use Rattle.words.specs.Words.{wordsIn}
 use Rattle.words.proofs.Bytes.{length-words}
-use Rattle.packets.specs.Packets.{plain, packetBytes}
+use Rattle.packets.specs.Packets.{firstSix, packetBytes}
 use Rattle.packets.specs.declared.Fields.{Fields}
-use Rattle.acceptance.specs.Acceptance.{answerOnPaper}
-use Rattle.steps.specs.Steps.{heardIn, silence}
+use Rattle.acceptance.specs.Acceptance.{answerMeaning}
+use Rattle.steps.specs.Steps.{judgedReply, noReply}
 use Rattle.run.specs.Run.{clockedRun, triggerNumber, triggerRules, afterAnswer}
-use Rattle.crate_pass.specs.Crate.{replyOnPaper}
-use Rattle.board.specs.State.{withRun, boardFor, powerUpOnPaper, powerUpAnswer, PowersUp}
+use Rattle.crate_pass.specs.Crate.{replyMeaning}
+use Rattle.board.specs.State.{withRun, boardFor, powerUpMeaning, powerUpAnswer, PowersUp}
 use Rattle.board.specs.Commands.{Obeys, TriggersOn}
 use Rattle.board.specs.SlowControl.{frameAt, Replies}
 use Rattle.board.specs.declared.Board.{Board}
 use Rattle.board.specs.declared.PowerUp.the-variants.{Up, Refused}
 use Rattle.board.specs.declared.PoweredUp.{PoweredUp}
-use Rattle.board.specs.declared.Obedience.{Obedience}
+use Rattle.board.specs.declared.CommandResult.{CommandResult}
 use Rattle.board.specs.declared.TriggeredOn.{TriggeredOn}
 use Rattle.board.specs.declared.Replied.{Replied}
 use Rattle.texts.specs.Texts.{inBytes}
-use Rattle.texts.specs.declared.Said.{Said}
-use Rattle.texts.specs.declared.Said.the-variants.{One}
+use Rattle.texts.specs.declared.Response.{Response}
+use Rattle.texts.specs.declared.Response.the-variants.{One}
 use Rattle.exchange.specs.Orders.{Order, powerUp, command, clockStep, trigger, reply, timeUp, otherForm, taking, areFields, fieldsFrom, oneByte, anyWords, replyFrom, powerUpOrder, clockOrder, triggerOrder}
-use Rattle.exchange.specs.Exchange.{refusalReply, plainReply, commandReply, outcomeReply, replyTo, afterPowerUp, boardAfterOrder, Says, SaysWrittenBytes, Answers, AnswersInBytes}
+use Rattle.exchange.specs.Exchange.{refusalPrinted, plainPrinted, commandPrinted, outcomePrinted, printedAnswer, afterPowerUp, boardAfterOrder}
+use Rattle.exchange.specs.CodeShape.{Prints, PrintsWrittenBytes, Answers, AnswersInBytes}
 use Rattle.exchange.specs.declared.Answered.{Answered}
-use Rattle.exchange.proofs.Writing.{room-writing, due-said}
+use Rattle.exchange.proofs.Writing.{room-writing, due-response}
 use Rattle.exchange.proofs.Asking.{taken}
 
-abbrev answered : Said → Board → Answered
-answered s β = record { said = s; board = β }
+abbrev answered : Response → Board → Answered
+answered s β = record { response = s; board = β }
 
 -- an order that is another
 answers-as : (β : Board) (o p : Order) (a : Answered) → o ≡ p → Answers β o a → Answers β p a
 answers-as β o p a e h =
-    record { said = λ bytes words. h .said bytes words ∙ ap (replyTo β) e; board = h .board ∙ ap (boardAfterOrder β) e }
+    record { response = λ bytes words. h .response bytes words ∙ ap (printedAnswer β) e; board = h .board ∙ ap (boardAfterOrder β) e }
 
 -- ---- an order in another form
 
@@ -60,7 +61,7 @@ module _ (β : Board) (a : Answered) (h : Answers β otherForm a) where
   pub no-trigger : (b out : List ℕ) (t : Bool) → t ≡ areFields b → t ≡ false → AnswersInBytes β (triggerOrder b) a out
   no-trigger b out t q e =
       let g = unserved (areFields b) (trigger (fieldsFrom b)) (sym q ∙ e) in
-      record { said = λ words. g .said out words; board = g .board }
+      record { response = λ words. g .response out words; board = g .board }
 
 -- ---- P
 
@@ -78,60 +79,60 @@ module _ (β : Board) (b w : List ℕ) (l : length b ≡ 10) (e : w ≡ wordsIn 
   power-up-as = ap (λ (n : ℕ). powerUp n (getD w 4 0)) ei ∙ power-up-is b w l e
 
   pub powered-up : up .answer ≡ Up → Answers β (powerUpOrder b) (answered (One 0) (up .board))
-  unfolding replyTo boardAfterOrder
+  unfolding printedAnswer boardAfterOrder
   powered-up q =
-      let a : powerUpAnswer id ≡ given tt = sym (h .answer) ∙ ap powerUpOnPaper q in
+      let a : powerUpAnswer id ≡ given tt = sym (h .answer) ∙ ap powerUpMeaning q in
       answers-as β _ _ _ power-up-as
       (record {
-        said = λ bytes words. sym (ap plainReply a);
+        response = λ bytes words. sym (ap plainPrinted a);
         board = h .board ∙ ap (λ (x : Answer Unit). boardFor x id (getD w 4 0)) a ∙ sym (ap (afterPowerUp β id (getD w 4 0)) a);
       })
 
-  pub power-up-refused : (r : Refusal) (s : Said) → up .answer ≡ Refused r → Says s (refusalReply (numberOf r) (placeOf r)) → Answers β (powerUpOrder b) (answered s β)
-  unfolding replyTo boardAfterOrder
+  pub power-up-refused : (r : Refusal) (s : Response) → up .answer ≡ Refused r → Prints s (refusalPrinted (numberOf r) (placeOf r)) → Answers β (powerUpOrder b) (answered s β)
+  unfolding printedAnswer boardAfterOrder
   power-up-refused r s q k =
-      let a : powerUpAnswer id ≡ refused (numberOf r) (placeOf r) = sym (h .answer) ∙ ap powerUpOnPaper q in
+      let a : powerUpAnswer id ≡ refused (numberOf r) (placeOf r) = sym (h .answer) ∙ ap powerUpMeaning q in
       answers-as β _ _ _ power-up-as
-      (record { said = λ bytes words. k bytes words ∙ sym (ap plainReply a); board = sym (ap (afterPowerUp β id (getD w 4 0)) a) })
+      (record { response = λ bytes words. k bytes words ∙ sym (ap plainPrinted a); board = sym (ap (afterPowerUp β id (getD w 4 0)) a) })
 
 -- ---- C
 
-pub commanded : (β : Board) (b w : List ℕ) (s : Said) (d : Obedience) → length b % 2 ≡ 0 → w ≡ wordsIn b → Obeys β w d
-    → Says s (commandReply (d .used) (answerOnPaper (d .answer))) → Answers β (anyWords command b) (answered s (d .board))
-unfolding replyTo boardAfterOrder
+pub commanded : (β : Board) (b w : List ℕ) (s : Response) (d : CommandResult) → length b % 2 ≡ 0 → w ≡ wordsIn b → Obeys β w d
+    → Prints s (commandPrinted (d .used) (answerMeaning (d .answer))) → Answers β (anyWords command b) (answered s (d .board))
+unfolding printedAnswer boardAfterOrder
 commanded β b w s d l e h k =
     answers-as β (command w) (anyWords command b) _ (ap command e ∙ sym (taken _ _ (eq-eqb _ _ l)))
-    (record { said = λ bytes words. k bytes words ∙ ap₂ commandReply (h .used) (h .answer); board = h .board })
+    (record { response = λ bytes words. k bytes words ∙ ap₂ commandPrinted (h .used) (h .answer); board = h .board })
 
 -- ---- K
 
 pub clocked : (β : Board) (b w : List ℕ) (ticks : ℕ) (next : Board) → length b ≡ 4 → w ≡ wordsIn b
     → ticks ≡ number 65536 (getD w 0 0 ∷ getD w 1 0 ∷ []) → next ≡ withRun β (clockedRun (β .run) ticks)
     → Answers β (clockOrder b) (answered (One 0) next)
-unfolding replyTo boardAfterOrder
+unfolding printedAnswer boardAfterOrder
 clocked β b w ticks next l e et en =
     let n : length w ≡ 2 = ap length e ∙ length-words b ∙ (let k : length b / 2 ≡ 2 = omega arith in k) in
     answers-as β (clockStep ticks) (clockOrder b) _
     (ap clockStep (et ∙ ap (number 65536) (listed w 2 n ∙ e)) ∙ sym (taken _ _ (eq-eqb _ _ l)))
-    (record { said = λ bytes words. refl; board = en })
+    (record { response = λ bytes words. refl; board = en })
 
 -- ---- G
 
 length-packet : (n : ℕ) (f : Fields) → length (packetBytes n f) ≡ 7
-unfolding plain
+unfolding firstSix
 length-packet n f = refl
 
-pub triggered : (β : Board) (b out after : List ℕ) (s : Said) (t : Bool) (f : Fields) (g : TriggeredOn) → t ≡ areFields b → t ≡ true → f ≡ fieldsFrom b
-    → length out ≡ 28 → TriggersOn β f out g after → SaysWrittenBytes s (writtenOnPaper (g .answer))
+pub triggered : (β : Board) (b out after : List ℕ) (s : Response) (t : Bool) (f : Fields) (g : TriggeredOn) → t ≡ areFields b → t ≡ true → f ≡ fieldsFrom b
+    → length out ≡ 28 → TriggersOn β f out g after → PrintsWrittenBytes s (writtenMeaning (g .answer))
     → AnswersInBytes β (triggerOrder b) (answered s (g .board)) after
-unfolding replyTo boardAfterOrder
+unfolding printedAnswer boardAfterOrder
 triggered β b out after s t f g et h ef n x k =
     let rules = triggerRules (β .run) f in
     let due = packetBytes (triggerNumber (β .run)) f in
     let d = length-packet (triggerNumber (β .run)) f in
     let e : trigger f ≡ triggerOrder b = ap trigger ef ∙ sym (taken _ _ (sym et ∙ h)) in
     record {
-      said = λ words. k after words ∙ due-said inBytes rules due out (λ _. omega arith) after (g .answer) (x .packet) ∙ ap (replyTo β) e;
+      response = λ words. k after words ∙ due-response inBytes rules due out (λ _. omega arith) after (g .answer) (x .packet) ∙ ap (printedAnswer β) e;
       board =
           x .board
           ∙ ap (λ (a : Answer ℕ). withRun β (afterAnswer (β .run) a)) (room-writing rules due out (omega arith) ∙ ap (lowest rules) d)
@@ -140,17 +141,17 @@ triggered β b out after s t f g et h ef n x k =
 
 -- ---- R and T
 
-module _ (β : Board) (s : Said) (r : Replied) (k : Says s (outcomeReply (replyOnPaper (r .answer)))) where
-  pub replied : (b bytes : List ℕ) → (length b ≡ 0 → ⊥) → bytes ≡ drop 1 b → Replies β (getD b 0 0) (heardIn (frameAt β (getD b 0 0)) bytes) r
+module _ (β : Board) (s : Response) (r : Replied) (k : Prints s (outcomePrinted (replyMeaning (r .answer)))) where
+  pub replied : (b bytes : List ℕ) → (length b ≡ 0 → ⊥) → bytes ≡ drop 1 b → Replies β (getD b 0 0) (judgedReply (frameAt β (getD b 0 0)) bytes) r
       → Answers β (replyFrom b) (answered s (r .board))
-  unfolding replyTo boardAfterOrder
+  unfolding printedAnswer boardAfterOrder
   replied [] bytes n e h = absurd (n refl)
   replied (c ∷ b) bytes n e h =
       answers-as β (reply c bytes) (reply c b) _ (ap (reply c) e)
-      (record { said = λ x y. k x y ∙ ap outcomeReply (h .answer); board = h .board })
+      (record { response = λ x y. k x y ∙ ap outcomePrinted (h .answer); board = h .board })
 
-  pub timed-up : (b : List ℕ) → length b ≡ 1 → Replies β (getD b 0 0) silence r → Answers β (oneByte timeUp b) (answered s (r .board))
-  unfolding replyTo boardAfterOrder
+  pub timed-up : (b : List ℕ) → length b ≡ 1 → Replies β (getD b 0 0) noReply r → Answers β (oneByte timeUp b) (answered s (r .board))
+  unfolding printedAnswer boardAfterOrder
   timed-up b l h =
       answers-as β (timeUp (getD b 0 0)) (oneByte timeUp b) _ (sym (taken _ _ (eq-eqb _ _ l)))
-      (record { said = λ x y. k x y ∙ ap outcomeReply (h .answer); board = h .board })
+      (record { response = λ x y. k x y ∙ ap outcomePrinted (h .answer); board = h .board })

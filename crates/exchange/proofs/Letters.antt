@@ -10,10 +10,12 @@ use lib.ListN.{length, getD}
 use borrow.Author.Tests.{ne-eqb}
 use Rattle.words.specs.Words.{wordsIn}
 use Rattle.board.specs.declared.Board.{Board}
-use Rattle.texts.specs.Texts.{Reply, question, saidOnPaper}
-use Rattle.texts.specs.declared.Said.{Said}
-use Rattle.exchange.specs.Orders.{Order, otherForm, command, timeUp, outstanding, framesSent, static, ftuList, failure, dynamic, oneByte, noByte, anyWords, replyFrom, powerUpOrder, clockOrder, triggerOrder, Row, found, asking, askedBy, orderOf}
-use Rattle.exchange.specs.Exchange.{replyTo, boardAfterOrder, Answers, AnswersInBytes, AnswersBoth}
+use Rattle.texts.specs.Texts.{Printed, question, responseMeaning}
+use Rattle.texts.specs.declared.Response.{Response}
+use Rattle.exchange.specs.Orders.{Order, otherForm, command, timeUp, outstanding, framesSent, static, ftuList, failure, dynamic, oneByte, noByte, anyWords, replyFrom, powerUpOrder, clockOrder, triggerOrder, Row, found, asking, orderOf}
+use Rattle.exchange.specs.CodeShape.{askedBy}
+use Rattle.exchange.specs.Exchange.{printedAnswer, boardAfterOrder}
+use Rattle.exchange.specs.CodeShape.{Answers, AnswersInBytes, AnswersBoth}
 use Rattle.exchange.specs.declared.Answered.{Answered}
 
 module _ (letter : ℕ) (b : List ℕ) where
@@ -73,8 +75,8 @@ module _ (letter : ℕ) (b : List ℕ) where
   only-asked p c k g r t = simp (ne-eqb _ _ p, ne-eqb _ _ c, ne-eqb _ _ k, ne-eqb _ _ g, ne-eqb _ _ r, ne-eqb _ _ t)
 
   module _ (β : Board) where
-    pub asks-other : (letter ≡ 70 → ⊥) → (letter ≡ 78 → ⊥) → (letter ≡ 83 → ⊥) → (letter ≡ 76 → ⊥) → (letter ≡ 77 → ⊥) → (letter ≡ 68 → ⊥) → question ≡ replyTo β (askedBy letter b)
-    unfolding askedBy replyTo
+    pub asks-other : (letter ≡ 70 → ⊥) → (letter ≡ 78 → ⊥) → (letter ≡ 83 → ⊥) → (letter ≡ 76 → ⊥) → (letter ≡ 77 → ⊥) → (letter ≡ 68 → ⊥) → question ≡ printedAnswer β (askedBy letter b)
+    unfolding askedBy printedAnswer
     asks-other f n s l m d = simp (ne-eqb _ _ f, ne-eqb _ _ n, ne-eqb _ _ s, ne-eqb _ _ l, ne-eqb _ _ m, ne-eqb _ _ d)
 
     keeps : (t : Bool) (o p : Order) → boardAfterOrder β o ≡ β → boardAfterOrder β p ≡ β → boardAfterOrder β (cond t o p) ≡ β
@@ -107,21 +109,21 @@ module _ (letter : ℕ) (b : List ℕ) where
         found-keeps asking (f, (n, (s, (l, (m, (d, tt))))))
 
     pub orders-other : (letter ≡ 80 → ⊥) → (letter ≡ 67 → ⊥) → (letter ≡ 75 → ⊥) → (letter ≡ 71 → ⊥) → (letter ≡ 82 → ⊥) → (letter ≡ 84 → ⊥)
-        → (s : Said) (bytes words : List ℕ) → saidOnPaper s bytes words ≡ replyTo β (askedBy letter b)
-        → AnswersBoth β (orderOf letter b) (record { said = s; board = β }) bytes words
+        → (s : Response) (bytes words : List ℕ) → responseMeaning s bytes words ≡ printedAnswer β (askedBy letter b)
+        → AnswersBoth β (orderOf letter b) (record { response = s; board = β }) bytes words
     orders-other p c k g r t s bytes words h =
         let e : askedBy letter b ≡ orderOf letter b = only-asked p c k g r t in
-        record { said = h ∙ ap (replyTo β) e; board = sym asked-keeps ∙ ap (boardAfterOrder β) e }
+        record { response = h ∙ ap (printedAnswer β) e; board = sym asked-keeps ∙ ap (boardAfterOrder β) e }
 
 -- ---- a letter's order, answered
 
 module _ (β : Board) (o p : Order) (e : o ≡ p) where
-  pub asked-as : (r : Reply) → r ≡ replyTo β o → r ≡ replyTo β p
-  asked-as r h = h ∙ ap (replyTo β) e
+  pub asked-as : (r : Printed) → r ≡ printedAnswer β o → r ≡ printedAnswer β p
+  asked-as r h = h ∙ ap (printedAnswer β) e
 
   module _ (a : Answered) (bytes words : List ℕ) where
     pub ordered-as : Answers β o a → AnswersBoth β p a bytes words
-    ordered-as h = record { said = h .said bytes words ∙ ap (replyTo β) e; board = h .board ∙ ap (boardAfterOrder β) e }
+    ordered-as h = record { response = h .response bytes words ∙ ap (printedAnswer β) e; board = h .board ∙ ap (boardAfterOrder β) e }
 
     pub ordered-in-bytes-as : AnswersInBytes β o a bytes → AnswersBoth β p a bytes words
-    ordered-in-bytes-as h = record { said = h .said words ∙ ap (replyTo β) e; board = h .board ∙ ap (boardAfterOrder β) e }
+    ordered-in-bytes-as h = record { response = h .response words ∙ ap (printedAnswer β) e; board = h .board ∙ ap (boardAfterOrder β) e }

@@ -1,5 +1,5 @@
 -- Laws that belong to no one function.
-pub mod Saying
+pub mod Printing
 pub mod Writing
 pub mod Asking
 pub mod Fields

@@ -10,12 +10,14 @@ use native.Mathlib.Omega.{arith}
 use native.Mathlib.Nat.{zero-min, min-zero, suc-min-suc}
 use borrow.Author.Tests.{ne-eqb, eq-eqb, lt-leb, le-leb}
 use Rattle.board.specs.declared.Board.{Board}
-use Rattle.script.specs.Script.{Line, order, malformed, passedOver, orderIn, lineIn}
+use Rattle.script.specs.Script.{Line, order, malformed, passedOver}
+use Rattle.script.specs.ByCharacter.{orderIn, lineIn}
 use Rattle.script.specs.declared.Form.the-variants.{Empty, Comment, Order, Malformed}
 use Rattle.script.specs.declared.Reading.{Reading}
-use Rattle.texts.specs.Texts.{question, textOf, saidOnPaper, inFront}
+use Rattle.texts.specs.Texts.{question, textOf, responseMeaning, inFront}
 use Rattle.exchange.specs.Orders.{orderOf}
-use Rattle.exchange.specs.Exchange.{AnswersBoth, printedFor, boardAfterLine, ServesLine}
+use Rattle.exchange.specs.Exchange.{printedFor, boardAfterLine, ServesLine}
+use Rattle.exchange.specs.CodeShape.{AnswersBoth}
 use Rattle.exchange.specs.declared.Answered.{Answered}
 use Rattle.exchange.specs.declared.ServedLine.{ServedLine}
 
@@ -91,13 +93,13 @@ questioned β text n after l p = record { length = l; printed = p; board = refl 
 
 pub ordered : (β : Board) (letter : ℕ) (bytes : List ℕ) (a : Answered) (out words text : List ℕ) (n : ℕ) (after : List ℕ)
     → AnswersBoth β (orderOf letter bytes) a out words
-    → n ≡ length (textOf (saidOnPaper (a .said) out words))
-    → after ≡ inFront (textOf (saidOnPaper (a .said) out words)) text
+    → n ≡ length (textOf (responseMeaning (a .response) out words))
+    → after ≡ inFront (textOf (responseMeaning (a .response) out words)) text
     → ServesLine β (order letter bytes) text (record { length = n; board = a .board }) after
 unfolding printedFor boardAfterLine
 ordered β letter bytes a out words text n after h l p =
     record {
-      length = l ∙ ap (λ r. length (textOf r)) (h .said);
-      printed = p ∙ ap (λ r. inFront (textOf r) text) (h .said);
+      length = l ∙ ap (λ r. length (textOf r)) (h .response);
+      printed = p ∙ ap (λ r. inFront (textOf r) text) (h .response);
       board = h .board;
     }

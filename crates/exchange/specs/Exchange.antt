@@ -4,14 +4,14 @@ use mathlib.Core.Path.{_≡_}
 use mathlib.Core.Bool.{cond}
 use mathlib.Core.List.{List, [], _∷_, _++_}
 use lib.Dec.{eqb}
-use lib.ListN.{length, take}
+use lib.ListN.{length}
 use Rattle.refusals.specs.Tables.{Answer, given, refused, Rule, lowest}
 use Rattle.packets.specs.Packets.{packetBytes}
 use Rattle.blocks.specs.Blocks.{headerWords, staticRules, measurementRules, wrongId}
 use Rattle.ftu_list.specs.List.{listBody}
 use Rattle.commands.specs.declared.Command.{Command}
 use Rattle.command_reader.specs.Reading.{commandAnswer, usedOf}
-use Rattle.steps.specs.Steps.{heardIn, silence}
+use Rattle.steps.specs.Steps.{judgedReply, noReply}
 use Rattle.run.specs.Run.{clockedRun, triggerNumber, triggerRules, afterAnswer}
 use Rattle.crate_pass.specs.declared.Outcome.{Outcome}
 use Rattle.board.specs.State.{freshBoard, withRun, powerUpAnswer}
@@ -20,64 +20,57 @@ use Rattle.board.specs.SlowControl.{fetchRules, frameAt, replyAnswer, boardRepl
 use Rattle.board.specs.SentOut.{headerOf, dynamicBodyOf, listRules, listOf, failureRules, failureBodyOf}
 use Rattle.board.specs.declared.Board.{Board}
 use Rattle.script.specs.Script.{Line, passedOver, order, malformed}
-use Rattle.texts.specs.declared.Said.{Said}
-use Rattle.texts.specs.Texts.{Reply, question, numbers, done, served, inBytes, inWords, textOf, saidOnPaper, inFront}
+use Rattle.texts.specs.Texts.{Printed, question, numbers, done, served, inBytes, inWords, textOf, inFront}
 use Rattle.exchange.specs.Orders.{Order, powerUp, command, clockStep, trigger, reply, timeUp, outstanding, framesSent}
 use Rattle.exchange.specs.Orders.{static, ftuList, failure, dynamic, otherForm, orderOf}
-use Rattle.exchange.specs.declared.Answered.{Answered}
 use Rattle.exchange.specs.declared.ServedLine.{ServedLine}
 
 -- ---- what is printed
 
 -- "the number, and for 8 the place after it"
-abbrev pub refusalReply : ℕ → ℕ → Reply
-refusalReply n p = numbers (cond (eqb n 8) (n ∷ p ∷ []) (n ∷ []))
+abbrev pub refusalPrinted : ℕ → ℕ → Printed
+refusalPrinted n p = numbers (cond (eqb n 8) (n ∷ p ∷ []) (n ∷ []))
 
-abbrev pub plainReply : Answer Unit → Reply
-plainReply (given t) = numbers (0 ∷ [])
-plainReply (refused n p) = refusalReply n p
+abbrev pub plainPrinted : Answer Unit → Printed
+plainPrinted (given t) = numbers (0 ∷ [])
+plainPrinted (refused n p) = refusalPrinted n p
 
 -- "Refused: the number and the words used, and for 8 the place"
-abbrev pub commandReply : ℕ → Answer Command → Reply
-commandReply used (given c) = done used c
-commandReply used (refused n p) = numbers (cond (eqb n 8) (n ∷ used ∷ p ∷ []) (n ∷ used ∷ []))
+abbrev pub commandPrinted : ℕ → Answer Command → Printed
+commandPrinted used (given c) = done used c
+commandPrinted used (refused n p) = numbers (cond (eqb n 8) (n ∷ used ∷ p ∷ []) (n ∷ used ∷ []))
 
-abbrev pub outcomeReply : Answer Outcome → Reply
-outcomeReply (given o) = served o
-outcomeReply (refused n p) = refusalReply n p
+abbrev pub outcomePrinted : Answer Outcome → Printed
+outcomePrinted (given o) = served o
+outcomePrinted (refused n p) = refusalPrinted n p
 
-abbrev pub sentReply : Answer ℕ → Reply
-sentReply (given n) = numbers (0 ∷ n ∷ [])
-sentReply (refused n p) = refusalReply n p
+abbrev pub sentPrinted : Answer ℕ → Printed
+sentPrinted (given n) = numbers (0 ∷ n ∷ [])
+sentPrinted (refused n p) = refusalPrinted n p
 
 -- bytes or words that are due, printed in their way
-abbrev pub dueReply : (List ℕ → Reply) → Answer (List ℕ) → Reply
-dueReply print (given due) = print due
-dueReply print (refused n p) = refusalReply n p
-
--- what a writer answered: how much it wrote, printed in its way
-abbrev pub writtenReply : (ℕ → Reply) → Answer ℕ → Reply
-writtenReply print (given n) = print n
-writtenReply print (refused n p) = refusalReply n p
+abbrev pub duePrinted : (List ℕ → Printed) → Answer (List ℕ) → Printed
+duePrinted print (given due) = print due
+duePrinted print (refused n p) = refusalPrinted n p
 
 -- a block with these rows of its own and this body: the words lent have room for every block, so 19 is left out
-abbrev pub blockReply : Board → List Rule → List ℕ → Reply
-blockReply β own body = dueReply inWords (lowest (own ++ (wrongId (headerOf β) ∷ [])) (headerWords (headerOf β) ++ body))
+abbrev pub blockPrinted : Board → List Rule → List ℕ → Printed
+blockPrinted β own body = duePrinted inWords (lowest (own ++ (wrongId (headerOf β) ∷ [])) (headerWords (headerOf β) ++ body))
 
-unfoldable pub replyTo : Board → Order → Reply
-replyTo β (powerUp id firmware) = plainReply (powerUpAnswer id)
-replyTo β (command w) = commandReply (usedOf (commandAnswer w)) (boardAnswer β w)
-replyTo β (clockStep ticks) = numbers (0 ∷ [])
-replyTo β (trigger f) = dueReply inBytes (lowest (triggerRules (β .run) f) (packetBytes (triggerNumber (β .run)) f))
-replyTo β (reply c bytes) = outcomeReply (replyAnswer β c (heardIn (frameAt β c) bytes))
-replyTo β (timeUp c) = outcomeReply (replyAnswer β c silence)
-replyTo β (outstanding c) = dueReply inBytes (lowest (fetchRules β c) (frameAt β c))
-replyTo β (framesSent c) = sentReply (sentAnswer β c)
-replyTo β static = blockReply β (staticRules (β .block)) (β .block)
-replyTo β ftuList = blockReply β (listRules β) (listBody (listOf β))
-replyTo β (failure n) = blockReply β (failureRules β n) (failureBodyOf β n)
-replyTo β (dynamic m) = blockReply β (measurementRules m) (dynamicBodyOf β m)
-replyTo β otherForm = question
+unfoldable pub printedAnswer : Board → Order → Printed
+printedAnswer β (powerUp id firmware) = plainPrinted (powerUpAnswer id)
+printedAnswer β (command w) = commandPrinted (usedOf (commandAnswer w)) (boardAnswer β w)
+printedAnswer β (clockStep ticks) = numbers (0 ∷ [])
+printedAnswer β (trigger f) = duePrinted inBytes (lowest (triggerRules (β .run) f) (packetBytes (triggerNumber (β .run)) f))
+printedAnswer β (reply c bytes) = outcomePrinted (replyAnswer β c (judgedReply (frameAt β c) bytes))
+printedAnswer β (timeUp c) = outcomePrinted (replyAnswer β c noReply)
+printedAnswer β (outstanding c) = duePrinted inBytes (lowest (fetchRules β c) (frameAt β c))
+printedAnswer β (framesSent c) = sentPrinted (sentAnswer β c)
+printedAnswer β static = blockPrinted β (staticRules (β .block)) (β .block)
+printedAnswer β ftuList = blockPrinted β (listRules β) (listBody (listOf β))
+printedAnswer β (failure n) = blockPrinted β (failureRules β n) (failureBodyOf β n)
+printedAnswer β (dynamic m) = blockPrinted β (measurementRules m) (dynamicBodyOf β m)
+printedAnswer β otherForm = question
 
 -- ---- the board after it
 
@@ -91,8 +84,8 @@ boardAfterOrder β (powerUp id firmware) = afterPowerUp β id firmware (powerUpA
 boardAfterOrder β (command w) = boardAfter β w
 boardAfterOrder β (clockStep ticks) = withRun β (clockedRun (β .run) ticks)
 boardAfterOrder β (trigger f) = withRun β (afterAnswer (β .run) (lowest (triggerRules (β .run) f) 7))
-boardAfterOrder β (reply c bytes) = boardReplied β c (heardIn (frameAt β c) bytes)
-boardAfterOrder β (timeUp c) = boardReplied β c silence
+boardAfterOrder β (reply c bytes) = boardReplied β c (judgedReply (frameAt β c) bytes)
+boardAfterOrder β (timeUp c) = boardReplied β c noReply
 boardAfterOrder β (outstanding c) = β
 boardAfterOrder β (framesSent c) = β
 boardAfterOrder β static = β
@@ -101,42 +94,12 @@ boardAfterOrder β (failure n) = β
 boardAfterOrder β (dynamic m) = β
 boardAfterOrder β otherForm = β
 
--- s says this, whatever bytes and words stand beside it; with these bytes; with these words
-abbrev pub Says : Said → Reply → Type 0
-Says s r = (bytes words : List ℕ) → saidOnPaper s bytes words ≡ r
-
-abbrev pub SaysInBytes : Said → List ℕ → Reply → Type 0
-SaysInBytes s bytes r = (words : List ℕ) → saidOnPaper s bytes words ≡ r
-
-abbrev pub SaysInWords : Said → List ℕ → Reply → Type 0
-SaysInWords s words r = (bytes : List ℕ) → saidOnPaper s bytes words ≡ r
-
--- s says what a writer answered, whose bytes, or words, stand beside it
-abbrev pub SaysWrittenBytes : Said → Answer ℕ → Type 0
-SaysWrittenBytes s a = (bytes words : List ℕ) → saidOnPaper s bytes words ≡ writtenReply (λ n. inBytes (take n bytes)) a
-
-abbrev pub SaysWrittenWords : Said → Answer ℕ → Type 0
-SaysWrittenWords s a = (bytes words : List ℕ) → saidOnPaper s bytes words ≡ writtenReply (λ n. inWords (take n words)) a
-
--- an order was answered a
-pub record Answers (β : Board) (o : Order) (a : Answered) : Type 0 where
-  pub said : Says (a .said) (replyTo β o)
-  pub board : a .board ≡ boardAfterOrder β o
-
-pub record AnswersInBytes (β : Board) (o : Order) (a : Answered) (bytes : List ℕ) : Type 0 where
-  pub said : SaysInBytes (a .said) bytes (replyTo β o)
-  pub board : a .board ≡ boardAfterOrder β o
-
-pub record AnswersBoth (β : Board) (o : Order) (a : Answered) (bytes words : List ℕ) : Type 0 where
-  pub said : saidOnPaper (a .said) bytes words ≡ replyTo β o
-  pub board : a .board ≡ boardAfterOrder β o
-
 -- ---- a line
 
 -- the line printed, and nothing for a line that is passed over
 unfoldable pub printedFor : Board → Line → List ℕ
 printedFor β passedOver = []
-printedFor β (order letter bytes) = textOf (replyTo β (orderOf letter bytes))
+printedFor β (order letter bytes) = textOf (printedAnswer β (orderOf letter bytes))
 printedFor β malformed = textOf question
 
 -- "prints `?` and changes nothing"

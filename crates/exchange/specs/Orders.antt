@@ -115,9 +115,6 @@ asking =
     ∷ row "D" (anyWords dynamic)
     ∷ []
 
-unfoldable pub askedBy : ℕ → List ℕ → Order
-askedBy letter b = found asking letter b
-
 -- a letter's order
 unfoldable pub orderOf : ℕ → List ℕ → Order
 orderOf letter b = found (changing ++ asking) letter b

@@ -3,13 +3,16 @@ ghost use mathlib.Core.Path.{_≡_};
 ghost use Prim.Native.Nat.{_≤_, min};
 ghost use lib.ListN.{length};
 ghost use Rattle.refusals.specs.Refusals.{numberOf, placeOf};
-ghost use Rattle.refusals.specs.Writing.{writtenOnPaper};
-ghost use Rattle.acceptance.specs.Acceptance.{answerOnPaper};
-ghost use Rattle.crate_pass.specs.Crate.{replyOnPaper};
-ghost use Rattle.script.specs.Script.{malformed, orderIn, lineIn};
-ghost use Rattle.texts.specs.Texts.{saidOnPaper};
-ghost use Rattle.exchange.specs.Orders.{areFlags, areFields, fieldsFrom, oneByte, noByte, anyWords, powerUpOrder, clockOrder, triggerOrder, replyFrom, askedBy, command, timeUp, outstanding, framesSent, static, ftuList, failure, dynamic, otherForm, orderOf};
-ghost use Rattle.exchange.specs.Exchange.{Says, SaysInBytes, SaysInWords, SaysWrittenBytes, SaysWrittenWords, refusalReply, commandReply, outcomeReply, replyTo, Answers, AnswersInBytes, AnswersBoth, ServesLine};
+ghost use Rattle.refusals.specs.Writing.{writtenMeaning};
+ghost use Rattle.acceptance.specs.Acceptance.{answerMeaning};
+ghost use Rattle.crate_pass.specs.Crate.{replyMeaning};
+ghost use Rattle.script.specs.Script.{malformed};
+ghost use Rattle.script.specs.ByCharacter.{orderIn, lineIn};
+ghost use Rattle.texts.specs.Texts.{responseMeaning};
+ghost use Rattle.exchange.specs.Orders.{areFlags, areFields, fieldsFrom, oneByte, noByte, anyWords, powerUpOrder, clockOrder, triggerOrder, replyFrom, command, timeUp, outstanding, framesSent, static, ftuList, failure, dynamic, otherForm, orderOf};
+ghost use Rattle.exchange.specs.CodeShape.{askedBy};
+ghost use Rattle.exchange.specs.Exchange.{refusalPrinted, commandPrinted, outcomePrinted, printedAnswer, ServesLine};
+ghost use Rattle.exchange.specs.CodeShape.{Prints, PrintsInBytes, PrintsInWords, PrintsWrittenBytes, PrintsWrittenWords, Answers, AnswersInBytes, AnswersBoth};
 use acceptance::CommandAnswer;
 use board::Board;
 use board::PowerUp;
@@ -23,13 +26,13 @@ use refusals::Refusal;
 use refusals::Written;
 use script::Form;
 use script::Reading;
-use texts::Said;
-use texts::write_said;
+use texts::Response;
+use texts::write_response;
 use words::words_from_bytes;
 
 // What an order gets, with the board after it.
 pub struct Answered {
-    pub said: Said,
+    pub response: Response,
     pub board: Board,
 }
 
@@ -40,55 +43,55 @@ pub struct ServedLine {
 }
 
 // A refusal's number, and for 8 the place.
-fn refusal_said(refusal: Refusal) -> Said
-    ensures { λ r. ⌜ Says r (refusalReply (numberOf refusal) (placeOf refusal)) ⌝ }
+fn refusal_response(refusal: Refusal) -> Response
+    ensures { λ r. ⌜ Prints r (refusalPrinted (numberOf refusal) (placeOf refusal)) ⌝ }
 {
     match refusal {
-        Refusal::AboveBound(place) => Said::Two(8, place),
-        _ => Said::One(refusal.number() as usize),
+        Refusal::AboveBound(place) => Response::Two(8, place),
+        _ => Response::One(refusal.number() as usize),
     }
 }
 
-// What is said of a command.
-fn command_said(answer: CommandAnswer, used: usize) -> Said
-    ensures { λ r. ⌜ Says r (commandReply used (answerOnPaper answer)) ⌝ }
+// What is printed for a command.
+fn command_response(answer: CommandAnswer, used: usize) -> Response
+    ensures { λ r. ⌜ Prints r (commandPrinted used (answerMeaning answer)) ⌝ }
 {
     match answer {
-        CommandAnswer::Obeyed(c) => Said::Done(used, c),
+        CommandAnswer::Obeyed(c) => Response::Done(used, c),
         CommandAnswer::Refused(r) => match r {
-            Refusal::AboveBound(place) => Said::Three(8, used, place),
-            _ => Said::Two(r.number() as usize, used),
+            Refusal::AboveBound(place) => Response::Three(8, used, place),
+            _ => Response::Two(r.number() as usize, used),
         },
     }
 }
 
-// What is said of a reply or a time-up.
-fn outcome_said(answer: ReplyAnswer) -> Said
-    ensures { λ r. ⌜ Says r (outcomeReply (replyOnPaper answer)) ⌝ }
+// What is printed for a reply or a time-up.
+fn outcome_response(answer: ReplyAnswer) -> Response
+    ensures { λ r. ⌜ Prints r (outcomePrinted (replyMeaning answer)) ⌝ }
 {
     match answer {
-        ReplyAnswer::Served(o) => Said::Served(o),
-        ReplyAnswer::Refused(r) => refusal_said(r),
+        ReplyAnswer::Served(o) => Response::Served(o),
+        ReplyAnswer::Refused(r) => refusal_response(r),
     }
 }
 
 // Bytes that were written, or why not.
-fn bytes_said(written: Written) -> Said
-    ensures { λ r. ⌜ SaysWrittenBytes r (writtenOnPaper written) ⌝ }
+fn bytes_response(written: Written) -> Response
+    ensures { λ r. ⌜ PrintsWrittenBytes r (writtenMeaning written) ⌝ }
 {
     match written {
-        Written::Length(n) => Said::Bytes(n),
-        Written::Refused(r) => refusal_said(r),
+        Written::Length(n) => Response::Bytes(n),
+        Written::Refused(r) => refusal_response(r),
     }
 }
 
 // Words that were written, or why not.
-fn words_said(written: Written) -> Said
-    ensures { λ r. ⌜ SaysWrittenWords r (writtenOnPaper written) ⌝ }
+fn words_response(written: Written) -> Response
+    ensures { λ r. ⌜ PrintsWrittenWords r (writtenMeaning written) ⌝ }
 {
     match written {
-        Written::Length(n) => Said::Words(n),
-        Written::Refused(r) => refusal_said(r),
+        Written::Length(n) => Response::Words(n),
+        Written::Refused(r) => refusal_response(r),
     }
 }
 
@@ -99,7 +102,7 @@ fn other_form(board: Board) -> Answered
     ensures { λ r. ⌜ Answers board otherForm r ⌝ }
 {
     Answered {
-        said: Said::Question,
+        response: Response::Question,
         board,
     }
 }
@@ -118,12 +121,12 @@ fn power_up_order(board: Board, bytes: &[u8]) -> Answered
     let fresh = up.board;
     match answer {
         PowerUp::Up => Answered {
-            said: Said::One(0),
+            response: Response::One(0),
             board: fresh,
         },
         PowerUp::Refused(r) => {
-            let said = refusal_said(r);
-            Answered { said, board }
+            let response = refusal_response(r);
+            Answered { response, board }
         }
     }
 }
@@ -143,7 +146,7 @@ fn command_order(board: Board, bytes: &[u8]) -> Answered
     let answer = done.answer;
     let next = done.board;
     Answered {
-        said: command_said(answer, done.used),
+        response: command_response(answer, done.used),
         board: next,
     }
 }
@@ -158,7 +161,7 @@ fn clock_order(board: Board, bytes: &[u8]) -> Answered
     let mut w = [0u16; 2];
     words_from_bytes(bytes, &mut w);
     Answered {
-        said: Said::One(0),
+        response: Response::One(0),
         board: board.clock(number32(w[0], w[1])),
     }
 }
@@ -215,7 +218,7 @@ fn trigger_order(board: Board, bytes: &[u8], out: &mut [u8; 28]) -> Answered
         let answer = t.answer;
         let next = t.board;
         return Answered {
-            said: bytes_said(answer),
+            response: bytes_response(answer),
             board: next,
         };
     }
@@ -233,7 +236,7 @@ fn reply_order(board: Board, bytes: &[u8]) -> Answered
     let answer = replied.answer;
     let next = replied.board;
     Answered {
-        said: outcome_said(answer),
+        response: outcome_response(answer),
         board: next,
     }
 }
@@ -249,7 +252,7 @@ fn time_up_order(board: Board, bytes: &[u8]) -> Answered
     let answer = replied.answer;
     let next = replied.board;
     Answered {
-        said: outcome_said(answer),
+        response: outcome_response(answer),
         board: next,
     }
 }
@@ -257,76 +260,82 @@ fn time_up_order(board: Board, bytes: &[u8]) -> Answered
 // ---- orders that only ask
 
 // F: the outstanding frame of a crate.
-fn frame_order(board: Board, bytes: &[u8], out: &mut [u8; 28]) -> Said
-    ensures { λ r. ⌜ SaysInBytes r (now (out .exit)) (replyTo board (oneByte outstanding (now (bytes .entry)))) ⌝ }
+fn frame_order(board: Board, bytes: &[u8], out: &mut [u8; 28]) -> Response
+    ensures { λ r. ⌜ PrintsInBytes r (now (out .exit)) (printedAnswer board (oneByte outstanding (now (bytes .entry)))) ⌝ }
 {
     if bytes.len() != 1 {
-        return Said::Question;
+        return Response::Question;
     }
-    bytes_said(board.outstanding_frame(bytes[0], out))
+    bytes_response(board.outstanding_frame(bytes[0], out))
 }
 
 // N: the number of frames sent on a crate.
-fn frames_sent_order(board: Board, bytes: &[u8]) -> Said
-    ensures { λ r. ⌜ Says r (replyTo board (oneByte framesSent (now (bytes .entry)))) ⌝ }
+fn frames_sent_order(board: Board, bytes: &[u8]) -> Response
+    ensures { λ r. ⌜ Prints r (printedAnswer board (oneByte framesSent (now (bytes .entry)))) ⌝ }
 {
     if bytes.len() != 1 {
-        return Said::Question;
+        return Response::Question;
     }
     match board.frames_sent(bytes[0]) {
-        FramesSent::Number(n) => Said::Two(0, n as usize),
-        FramesSent::Refused(r) => refusal_said(r),
+        FramesSent::Number(n) => Response::Two(0, n as usize),
+        FramesSent::Refused(r) => refusal_response(r),
     }
 }
 
 // S: the static block.
-fn static_order(board: Board, bytes: &[u8], out: &mut [u16; 498]) -> Said
-    ensures { λ r. ⌜ SaysInWords r (now (out .exit)) (replyTo board (noByte static (now (bytes .entry)))) ⌝ }
+fn static_order(board: Board, bytes: &[u8], out: &mut [u16; 498]) -> Response
+    ensures { λ r. ⌜ PrintsInWords r (now (out .exit)) (printedAnswer board (noByte static (now (bytes .entry)))) ⌝ }
 {
     if bytes.len() != 0 {
-        return Said::Question;
+        return Response::Question;
     }
-    words_said(board.static_block(out))
+    words_response(board.static_block(out))
 }
 
 // L: the FTU list.
-fn list_order(board: Board, bytes: &[u8], out: &mut [u16; 498]) -> Said
-    ensures { λ r. ⌜ SaysInWords r (now (out .exit)) (replyTo board (noByte ftuList (now (bytes .entry)))) ⌝ }
+fn list_order(board: Board, bytes: &[u8], out: &mut [u16; 498]) -> Response
+    ensures { λ r. ⌜ PrintsInWords r (now (out .exit)) (printedAnswer board (noByte ftuList (now (bytes .entry)))) ⌝ }
 {
     if bytes.len() != 0 {
-        return Said::Question;
+        return Response::Question;
     }
-    words_said(board.ftu_list(out))
+    words_response(board.ftu_list(out))
 }
 
 // M: the failure message of an ordinal.
-fn failure_order(board: Board, bytes: &[u8], out: &mut [u16; 498]) -> Said
-    ensures { λ r. ⌜ SaysInWords r (now (out .exit)) (replyTo board (oneByte failure (now (bytes .entry)))) ⌝ }
+fn failure_order(board: Board, bytes: &[u8], out: &mut [u16; 498]) -> Response
+    ensures { λ r. ⌜ PrintsInWords r (now (out .exit)) (printedAnswer board (oneByte failure (now (bytes .entry)))) ⌝ }
 {
     if bytes.len() != 1 {
-        return Said::Question;
+        return Response::Question;
     }
-    words_said(board.failure_message(bytes[0] as usize, out))
+    words_response(board.failure_message(bytes[0] as usize, out))
 }
 
 // D: the dynamic block with these measurements.
-fn dynamic_order(board: Board, bytes: &[u8], out: &mut [u16; 498]) -> Said
+fn dynamic_order(board: Board, bytes: &[u8], out: &mut [u16; 498]) -> Response
     requires { ⌜ length (now bytes) ≤ 2048 ⌝ }
-    ensures { λ r. ⌜ SaysInWords r (now (out .exit)) (replyTo board (anyWords dynamic (now (bytes .entry)))) ⌝ }
+    ensures { λ r. ⌜ PrintsInWords r (now (out .exit)) (printedAnswer board (anyWords dynamic (now (bytes .entry)))) ⌝ }
 {
     if bytes.len() % 2 != 0 {
-        return Said::Question;
+        return Response::Question;
     }
     let mut words = [0u16; 1024];
     words_from_bytes(bytes, &mut words);
     let count = bytes.len() / 2;
-    words_said(board.dynamic_block(&words[..count], out))
+    words_response(board.dynamic_block(&words[..count], out))
 }
 
 // An order that only asks, or a letter that is none.
-fn ask(board: Board, letter: u8, bytes: &[u8], out: &mut [u8; 28], words: &mut [u16; 498]) -> Said
+fn ask(
+    board: Board,
+    letter: u8,
+    bytes: &[u8],
+    out: &mut [u8; 28],
+    words: &mut [u16; 498],
+) -> Response
     requires { ⌜ length (now bytes) ≤ 2048 ⌝ }
-    ensures { λ r. ⌜ saidOnPaper r (now (out .exit)) (now (words .exit)) ≡ replyTo board (askedBy letter (now (bytes .entry))) ⌝ }
+    ensures { λ r. ⌜ responseMeaning r (now (out .exit)) (now (words .exit)) ≡ printedAnswer board (askedBy letter (now (bytes .entry))) ⌝ }
 {
     match letter {
         b'F' => frame_order(board, bytes, out),
@@ -335,7 +344,7 @@ fn ask(board: Board, letter: u8, bytes: &[u8], out: &mut [u8; 28], words: &mut [
         b'L' => list_order(board, bytes, words),
         b'M' => failure_order(board, bytes, words),
         b'D' => dynamic_order(board, bytes, words),
-        _ => Said::Question,
+        _ => Response::Question,
     }
 }
 
@@ -358,7 +367,7 @@ fn serve_order(
         b'R' => reply_order(board, bytes),
         b'T' => time_up_order(board, bytes),
         _ => Answered {
-            said: ask(board, letter, bytes, out, words),
+            response: ask(board, letter, bytes, out, words),
             board,
         },
     }
@@ -369,7 +378,7 @@ fn question(board: Board, text: &mut [u8; 2048]) -> ServedLine
     ensures { λ r. ⌜ ServesLine board malformed (now (text .entry)) r (now (text .exit)) ⌝ }
 {
     ServedLine {
-        length: write_said(Said::Question, &[0u8; 28], &[0u16; 498], text),
+        length: write_response(Response::Question, &[0u8; 28], &[0u16; 498], text),
         board,
     }
 }
@@ -396,10 +405,10 @@ fn serve_read(board: Board, reading: Reading, bytes: &[u8], text: &mut [u8; 2048
     let mut out = [0u8; 28];
     let mut words = [0u16; 498];
     let answered = serve_order(board, reading.letter, &bytes[..count], &mut out, &mut words);
-    let said = answered.said;
+    let response = answered.response;
     let next = answered.board;
     ServedLine {
-        length: write_said(said, &out, &words, text),
+        length: write_response(response, &out, &words, text),
         board: next,
     }
 }

@@ -45,9 +45,9 @@ module _ (first : Board) (ticks out : List ℕ) where
 
   module _ (i : ℕ) (β : Board) (now : List ℕ) (m : Made i β now) where
     -- the next number, and those after it
-    one-laid : (t : ℕ) (rest : List ℕ) → drop i due ≡ t ∷ rest → i < length due → i < length out
+    one-output : (t : ℕ) (rest : List ℕ) → drop i due ≡ t ∷ rest → i < length due → i < length out
         → (rest ≡ drop (i + 1) due) × (set now i t ≡ take (i + 1) due ++ drop (i + 1) out)
-    one-laid t rest e h room =
+    one-output t rest e h room =
         let both : t ∷ rest ≡ getD due i 0 ∷ drop (i + 1) due = sym e ∙ next-of due i h in
         let stamp : t ≡ getD due i 0 = ap (λ (l : List ℕ). getD l 0 0) both in
         (ap (drop 1) both, rw (m .numbers, stamp, add-one) (copy-more due out i h room))
@@ -60,11 +60,11 @@ module _ (first : Board) (ticks out : List ℕ) where
         let n = length-steps first ticks in
         let others = ap (λ (b : Board). stepsOf b (drop (i + 1) ticks)) (sym e) in
         let stamp : clockedRun (β .run) (getD ticks i 0) .timestamp ≡ t = sym (et ∙ ap (λ (b : Board). b .run .timestamp) e) in
-        let laid =
-        one-laid t (stepsOf β′ (drop (i + 1) ticks))
+        let outputAfter =
+        one-output t (stepsOf β′ (drop (i + 1) ticks))
         (sym (m .left) ∙ ap (stepsOf β) (next-of ticks i h) ∙ step-first β _ _ ∙ ap₂ (λ (k : ℕ) (l : List ℕ). k ∷ l) stamp others)
         (omega arith) room in
-        record { left = laid .0; numbers = laid .1 }
+        record { left = outputAfter .0; numbers = outputAfter .1 }
 
     -- the on-time after the last
     pub all-made : i ≡ length ticks → length ticks + 1 ≤ length out → (t : ℕ) → t ≡ β .run .«on_time» → set now i t ≡ due ++ drop (length due) out
@@ -73,10 +73,10 @@ module _ (first : Board) (ticks out : List ℕ) where
         let last : drop i due ≡ t ∷ [] =
         sym (m .left) ∙ ap (stepsOf β) (drop-of-length-le ticks {i = i} (omega arith)) ∙ step-none β ∙ ap (λ (k : ℕ). k ∷ []) (sym et) in
         let whole : i + 1 ≡ length due = omega arith in
-        one-laid t [] last (omega arith) (omega arith) .1
+        one-output t [] last (omega arith) (omega arith) .1
         ∙ rw whole (ap (λ (l : List ℕ). l ++ drop (length due) out) (take-all (length due) due (omega arith)))
 
 -- the same of an equal board
-pub steps-laid : (first other : Board) (ticks out after : List ℕ) → first ≡ other
+pub steps-output : (first other : Board) (ticks out after : List ℕ) → first ≡ other
     → after ≡ stepsOf first ticks ++ drop (length (stepsOf first ticks)) out → after ≡ stepsOf other ticks ++ drop (length (stepsOf other ticks)) out
-steps-laid first other ticks out after e q = q ∙ ap (λ (b : Board). stepsOf b ticks ++ drop (length (stepsOf b ticks)) out) e
+steps-output first other ticks out after e q = q ∙ ap (λ (b : Board). stepsOf b ticks ++ drop (length (stepsOf b ticks)) out) e

@@ -9,14 +9,14 @@ use mathlib.Core.List.{List}
 use lib.Dec.{eqb}
 use borrow.Author.Tests.{eqb-true}
 use Rattle.command_reader.specs.Reading.{restAfter, restOf}
-use Rattle.acceptance.specs.Acceptance.{answerOnPaper}
+use Rattle.acceptance.specs.Acceptance.{answerMeaning}
 use Rattle.board.specs.State.{freshBoard, powerUpAnswer, PowersUp}
 use Rattle.board.specs.Commands.{boardAnswer, boardAfter, Obeys}
 use Rattle.board.specs.declared.Board.{Board}
 use Rattle.board.specs.declared.PoweredUp.{PoweredUp}
-use Rattle.board.specs.declared.Obedience.{Obedience}
+use Rattle.board.specs.declared.CommandResult.{CommandResult}
 use Rattle.exports.specs.Exports.{answerNumber, isGiven, firstOf, afterCommands, acceptedOf, firstRefusal}
-use Rattle.exports.specs.Parts.{ObeysAll}
+use Rattle.exports.specs.CodeShape.{ObeysAll}
 use Rattle.exports.proofs.Packets.{one-left}
 
 -- the first of three
@@ -54,8 +54,8 @@ none-obeyed w count p up =
 
 module _ (w : List ℕ) (count i : ℕ) (rest : List ℕ) (β : Board) (accepted refusal : ℕ) (so-far : ObeyedSoFar w count i rest β accepted refusal) where
   -- the next command, on the words that are left
-  pub one-obeyed : (o : Obedience) → Obeys β rest o → (left : List ℕ) → left ≡ restAfter (o .used) rest
-      → (g n f : ℕ) → i < count → g ≡ isGiven (answerOnPaper (o .answer)) → n ≡ answerNumber (answerOnPaper (o .answer))
+  pub one-obeyed : (o : CommandResult) → Obeys β rest o → (left : List ℕ) → left ≡ restAfter (o .used) rest
+      → (g n f : ℕ) → i < count → g ≡ isGiven (answerMeaning (o .answer)) → n ≡ answerNumber (answerMeaning (o .answer))
       → f ≡ firstOf refusal n → ObeyedSoFar w count (i + 1) left (o .board) (accepted + g) f
   unfolding afterCommands acceptedOf firstRefusal
   one-obeyed o obeyed left el g n f l eg en ef =

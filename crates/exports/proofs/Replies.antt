@@ -9,9 +9,9 @@ use lib.ListN.{length, getD, set, take, drop}
 use lib.Seq.{getD-drop, drop-drop}
 use Rattle.refusals.specs.Tables.{Answer, refused}
 use Rattle.configuration.specs.Configuration.{activeWord}
-use Rattle.steps.specs.Steps.{stepFrame, heardIn}
-use Rattle.steps.specs.declared.Heard.{Heard}
-use Rattle.crate_pass.specs.Crate.{replyOnPaper, Serves}
+use Rattle.steps.specs.Steps.{stepFrame, judgedReply}
+use Rattle.steps.specs.declared.Judged.{Judged}
+use Rattle.crate_pass.specs.Crate.{replyMeaning, Serves}
 use Rattle.crate_pass.specs.declared.PassKind.{PassKind}
 use Rattle.crate_pass.specs.declared.Outcome.{Outcome}
 use Rattle.crate_pass.specs.declared.Crate.{Crate}
@@ -23,7 +23,7 @@ use Rattle.board.specs.declared.Board.{Board}
 use Rattle.board.specs.declared.Replied.{Replied}
 use Rattle.board.proofs.Serving.{answer-high, board-high, answer-low, board-low}
 use Rattle.exports.specs.Exports.{firstRefusal, goodOutcome, goodOf, passOf, passRefusal}
-use Rattle.exports.specs.Parts.{holding, CountsGood, ObeysAll}
+use Rattle.exports.specs.CodeShape.{withPass, CountsGood, ObeysAll}
 use Rattle.exports.specs.declared.AfterCommands.{AfterCommands}
 use Rattle.exports.proofs.Packets.{past, one-left}
 
@@ -40,7 +40,7 @@ module _ (items : List ℕ) (n i : ℕ) (l : i < n) where
   reply-is : (k : ℕ) → k ≡ 28 → take k (drop (29 * i + 1) items) ≡ take 28 (drop 1 (drop (29 * i) items))
   reply-is k e = ap₂ take e (sym (drop-drop 1 (29 * i) items))
 
-  module _ (β : Board) (k : ℕ) (e : k ≡ 28) (h : Heard) (q : h ≡ heardIn (frameAt β number) (take k (drop (29 * i + 1) items))) where
+  module _ (β : Board) (k : ℕ) (e : k ≡ 28) (h : Judged) (q : h ≡ judgedReply (frameAt β number) (take k (drop (29 * i + 1) items))) where
     item-next : goodOf (n - i) β (drop (29 * i) items)
         ≡ goodOutcome (replyAnswer β number h) + goodOf (n - (i + 1)) (boardReplied β number h) (drop (29 * (i + 1)) items)
     unfolding goodOf
@@ -48,10 +48,10 @@ module _ (items : List ℕ) (n i : ℕ) (l : i < n) where
         let m = n - (i + 1) in
         let reply = take 28 (drop 1 (drop (29 * i) items)) in
         let rest = drop 29 (drop (29 * i) items) in
-        let heard : h ≡ heardIn (frameAt β number) reply = q ∙ ap (heardIn (frameAt β number)) (reply-is k e) in
+        let judged : h ≡ judgedReply (frameAt β number) reply = q ∙ ap (judgedReply (frameAt β number)) (reply-is k e) in
         ap (λ (j : ℕ). goodOf j β (drop (29 * i) items)) (one-left n i l)
-        ∙ ap (λ (c : ℕ). goodOutcome (replyAnswer β c (heardIn (frameAt β c) reply)) + goodOf m (boardReplied β c (heardIn (frameAt β c) reply)) rest) number-is
-        ∙ ap (λ (g : Heard). goodOutcome (replyAnswer β number g) + goodOf m (boardReplied β number g) rest) (sym heard)
+        ∙ ap (λ (c : ℕ). goodOutcome (replyAnswer β c (judgedReply (frameAt β c) reply)) + goodOf m (boardReplied β c (judgedReply (frameAt β c) reply)) rest) number-is
+        ∙ ap (λ (g : Judged). goodOutcome (replyAnswer β number g) + goodOf m (boardReplied β number g) rest) (sym judged)
         ∙ ap (λ (x : List ℕ). goodOutcome (replyAnswer β number h) + goodOf m (boardReplied β number h) x) (past 29 i items)
 
     -- the item was answered a, and left the board β′: `good` before it, and g for it
@@ -64,36 +64,36 @@ module _ (items : List ℕ) (n i : ℕ) (l : i < n) where
         omega arith
 
     -- on the whole board
-    pub turn-replied : (r : Replied) → Replies β number h r → (good g : ℕ) → g ≡ goodOutcome (replyOnPaper (r .answer))
+    pub turn-replied : (r : Replied) → Replies β number h r → (good g : ℕ) → g ≡ goodOutcome (replyMeaning (r .answer))
         → good + g + goodOf (n - (i + 1)) (r .board) (drop (29 * (i + 1)) items) ≡ good + goodOf (n - i) β (drop (29 * i) items)
-    turn-replied r s = item-turn (replyOnPaper (r .answer)) (r .board) (s .answer) (s .board)
+    turn-replied r s = item-turn (replyMeaning (r .answer)) (r .board) (s .answer) (s .board)
 
   -- on the crates cs alone
   module _ (block : List ℕ) (kind : PassKind) (cs : List Crate) (good : ℕ) where
     abbrev Left : ℕ → ℕ → List Crate → Board → ℕ
-    Left g j ks β = g + goodOf (n - j) (holding β block kind ks) (drop (29 * j) items)
+    Left g j ks β = g + goodOf (n - j) (withPass β block kind ks) (drop (29 * j) items)
 
     pub turn-none : 3 < number → (cs′ : List Crate) (good′ : ℕ) → cs′ ≡ cs → good′ ≡ good → (β : Board) → Left good′ (i + 1) cs′ β ≡ Left good i cs β
     turn-none m cs′ good′ ec eg β =
-        let γ = holding β block kind cs in
-        let h = heardIn (frameAt γ number) (take 28 (drop (29 * i + 1) items)) in
+        let γ = withPass β block kind cs in
+        let h = judgedReply (frameAt γ number) (take 28 (drop (29 * i + 1) items)) in
         let t = item-turn γ 28 refl h refl (refused 11 0) γ (sym (answer-high γ number h m)) (sym (board-high γ number h m)) good 0 refl in
-        let u = ap (λ (ks : List Crate). goodOf (n - (i + 1)) (holding β block kind ks) (drop (29 * (i + 1)) items)) ec in
+        let u = ap (λ (ks : List Crate). goodOf (n - (i + 1)) (withPass β block kind ks) (drop (29 * (i + 1)) items)) ec in
         omega arith
 
-    pub turn-served : number ≤ 3 → (k : ℕ) → k ≡ 28 → (h : Heard)
-        → h ≡ heardIn (stepFrame block number (crateOf cs number .board) (crateOf cs number .code)) (take k (drop (29 * i + 1) items))
+    pub turn-served : number ≤ 3 → (k : ℕ) → k ≡ 28 → (h : Judged)
+        → h ≡ judgedReply (stepFrame block number (crateOf cs number .board) (crateOf cs number .code)) (take k (drop (29 * i + 1) items))
         → (w : ℕ) → w ≡ activeWord block number → (r : CrateServed) → Serves kind w (crateOf cs number) h r
-        → (g : ℕ) → g ≡ goodOutcome (replyOnPaper (r .answer)) → (cs′ : List Crate) (good′ : ℕ) → cs′ ≡ set cs number (r .state) → good′ ≡ good + g
+        → (g : ℕ) → g ≡ goodOutcome (replyMeaning (r .answer)) → (cs′ : List Crate) (good′ : ℕ) → cs′ ≡ set cs number (r .state) → good′ ≡ good + g
         → (β : Board) → Left good′ (i + 1) cs′ β ≡ Left good i cs β
-    unfolding holding withCrates frameAt
+    unfolding withPass withCrates frameAt
     turn-served m k ek h eh w ew r s g eg cs′ good′ ec egood β =
-        let γ = holding β block kind cs in
+        let γ = withPass β block kind cs in
         let p : Serves kind (activeWord block number) (crateOf cs number) h r = rw ew at s in
         let answer = p .answer ∙ sym (answer-low γ number h m) in
-        let board = ap (λ (c : Crate). holding β block kind (set cs number c)) (p .state) ∙ sym (board-low γ number h m) in
-        let t = item-turn γ k ek h eh (replyOnPaper (r .answer)) (holding β block kind (set cs number (r .state))) answer board good g eg in
-        let u = ap (λ (ks : List Crate). goodOf (n - (i + 1)) (holding β block kind ks) (drop (29 * (i + 1)) items)) ec in
+        let board = ap (λ (c : Crate). withPass β block kind (set cs number c)) (p .state) ∙ sym (board-low γ number h m) in
+        let t = item-turn γ k ek h eh (replyMeaning (r .answer)) (withPass β block kind (set cs number (r .state))) answer board good g eg in
+        let u = ap (λ (ks : List Crate). goodOf (n - (i + 1)) (withPass β block kind ks) (drop (29 * (i + 1)) items)) ec in
         omega arith
 
 -- before the first item, and after the last
@@ -114,7 +114,7 @@ module _ (w : List ℕ) (b : AfterCommands) (obeyed : ObeysAll 1 w b) where
   pass-on-board items r e = e ∙ ap (λ (β : Board). goodOf (length items / 29) β items) (obeyed .board)
 
   pub pass-on-crates : (items : List ℕ) (r : ℕ) → CountsGood (b .board .block) (b .board .kind) (b .board .crates) items r → r ≡ passOf w items
-  unfolding holding
+  unfolding withPass
   pass-on-crates items r g = pass-on-board items r (g (b .board))
 
   -- what refuses the call

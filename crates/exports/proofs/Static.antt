@@ -7,14 +7,14 @@ use mathlib.Core.List.{List, [], _∷_, _++_, append-nil}
 use lib.ListN.{length, take, drop, replicate, length-append, drop-of-length-le}
 use borrow.Author.Tests.{eq-eqb}
 use Rattle.refusals.specs.Tables.{refused, rule}
-use Rattle.refusals.specs.Writing.{writtenOnPaper}
+use Rattle.refusals.specs.Writing.{writtenMeaning}
 use Rattle.refusals.specs.declared.Refusal.{Refusal}
 use Rattle.refusals.specs.declared.Refusal.the-variants.{WrongLength}
 use Rattle.refusals.specs.declared.Written.{Written}
 use Rattle.refusals.specs.declared.Written.the-variants.{Length, Refused}
 use Rattle.refusals.proofs.Tables.{given≢refused}
 use Rattle.refusals.proofs.Writing.{wrote-alike-by, wrote-length, wrote-output, wrote-front}
-use Rattle.refusals.proofs.Apart.{written-apart}
+use Rattle.refusals.proofs.Injective.{written-injective}
 use Rattle.words.specs.Words.{copied}
 use Rattle.words.proofs.Laws.{copied-front}
 use Rattle.bounds.specs.Bounds.{boundOf, lentRules}
@@ -22,7 +22,7 @@ use Rattle.bounds.proofs.Lent.{lent-6, lent-within}
 use Rattle.blocks.specs.Blocks.{headerWords, staticRules, blockRules, WroteBlock}
 use Rattle.blocks.proofs.Laws.{block-own, block-clear}
 use Rattle.blocks.proofs.Tables.{block-exactly}
-use Rattle.block_reader.specs.Reading.{readOnPaper, blockAnswer}
+use Rattle.block_reader.specs.Reading.{readMeaning, blockAnswer}
 use Rattle.block_reader.specs.declared.Kind.the-variants.{Static}
 use Rattle.block_reader.specs.declared.BlockRead.{BlockRead}
 use Rattle.block_reader.specs.declared.BlockRead.the-variants.{Refused as Unread}
@@ -60,16 +60,16 @@ module _ (block out : List ℕ) (w : Written) (after : List ℕ) (s : WroteLent 
         sym (ap length (wrote-front table due out n after (as-length .wrote)) ∙ wrote-length table due out n after (as-length .wrote))
 
     -- so the reader does not refuse it
-    pub static-unread : {A : Type 0} (r : Refusal) (b : BlockRead) → b ≡ Unread r → readOnPaper b ≡ blockAnswer Static (take n after) → A
-    static-unread r b told q = absurd (given≢refused (sym (static-reads .header) ∙ sym q ∙ ap readOnPaper told))
+    pub static-unread : {A : Type 0} (r : Refusal) (b : BlockRead) → b ≡ Unread r → readMeaning b ≡ blockAnswer Static (take n after) → A
+    static-unread r b told q = absurd (given≢refused (sym (static-reads .header) ∙ sym q ∙ ap readMeaning told))
 
   -- the number is that of the writer's answer
-  pub static-round : (r : ℕ) → r ≡ answerNumber (writtenOnPaper w) → StaticRound block out r after
+  pub static-round : (r : ℕ) → r ≡ answerNumber (writtenMeaning w) → StaticRound block out r after
   static-round r q =
       record {
         number = q ∙ ap answerNumber (s .wrote .answer);
         output = s .wrote .output;
-        reads = λ n e. static-reads n (written-apart w (Length n) (s .wrote .answer ∙ e));
+        reads = λ n e. static-reads n (written-injective w (Length n) (s .wrote .answer ∙ e));
       }
 
 -- other words than 436

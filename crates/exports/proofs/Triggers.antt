@@ -9,10 +9,10 @@ use lib.ListN.{length, take, drop, length-append, length-drop, take-append-drop,
 use lib.Seq.{length-take-le, take-at, drop-at}
 use borrow.Author.Tests.{le-ltb}
 use Rattle.refusals.specs.Tables.{Answer, given, refused, Rule, lowest}
-use Rattle.refusals.specs.Writing.{writingBy, writingRules, writtenOnPaper, laid}
+use Rattle.refusals.specs.Writing.{writingBy, writingRules, writtenMeaning, outputAfter}
 use Rattle.refusals.specs.declared.Refusal.{Refusal}
 use Rattle.refusals.specs.declared.Written.the-variants.{Length, Refused}
-use Rattle.packets.specs.Packets.{plain, packetBytes}
+use Rattle.packets.specs.Packets.{firstSix, packetBytes}
 use Rattle.run.specs.Run.{triggerNumber, triggerRules, triggerAnswer, afterTrigger, afterAnswer}
 use Rattle.run.specs.declared.Run.{Run}
 use Rattle.board.specs.State.{withRun}
@@ -20,7 +20,7 @@ use Rattle.board.specs.Commands.{TriggersOn}
 use Rattle.board.specs.declared.Board.{Board}
 use Rattle.board.specs.declared.TriggeredOn.{TriggeredOn}
 use Rattle.exports.specs.Exports.{four, packetThen, packetsOf, afterTwo}
-use Rattle.exports.specs.Parts.{ObeysAll, LaysPackets}
+use Rattle.exports.specs.CodeShape.{ObeysAll, GivesPackets}
 use Rattle.exports.specs.declared.AfterCommands.{AfterCommands}
 use Rattle.exports.proofs.Packets.{past, one-left}
 use Rattle.words.proofs.Laws.{part-rest}
@@ -31,12 +31,12 @@ rows-before [] more a e = e
 rows-before {A} (r ∷ rs) more a e = ap (λ (x : Answer A). cond (r .applies) (refused (r .number) (r .place)) x) (rows-before rs more a e)
 
 pub packet-size : (r : Run) → length (packetBytes (triggerNumber r) four) ≡ 7
-unfolding plain
+unfolding firstSix
 packet-size r = refl
 
 -- where there is room for a packet, the answer is that of a trigger's own rows
 room : (r : Run) (out : List ℕ) → 7 ≤ length out → triggerAnswer r four out ≡ lowest (triggerRules r four) 7
-unfolding writingBy writingRules plain
+unfolding writingBy writingRules firstSix
 room r out h = rows-before (triggerRules r four) _ 7 (rw (le-ltb _ _ h) refl)
 
 module _ (β : Board) (m : ℕ) (out : List ℕ) (t : TriggeredOn) (after : List ℕ) (s : TriggersOn β four out t after) (h : 7 ≤ length out) where
@@ -47,7 +47,7 @@ module _ (β : Board) (m : ℕ) (out : List ℕ) (t : TriggeredOn) (after : List
   unfolding withRun
   run-after = ap (λ (b : Board). b .run) (s .board)
 
-  told : lowest (triggerRules r four) 7 ≡ writtenOnPaper (t .answer)
+  told : lowest (triggerRules r four) 7 ≡ writtenMeaning (t .answer)
   told = sym (room r out h) ∙ sym (s .packet .answer)
 
   abbrev packet : List ℕ
@@ -55,24 +55,24 @@ module _ (β : Board) (m : ℕ) (out : List ℕ) (t : TriggeredOn) (after : List
 
   module _ (k : ℕ) (e : t .answer ≡ Length k) where
     answered : triggerAnswer r four out ≡ given k
-    answered = sym (s .packet .answer) ∙ ap writtenOnPaper e
+    answered = sym (s .packet .answer) ∙ ap writtenMeaning e
 
     pub given-packets : packetsOf (suc m) r ≡ packet ++ packetsOf m (t .board .run)
     unfolding packetsOf
     given-packets =
-        ap (λ (a : Answer ℕ). packetThen a packet (packetsOf m (afterTrigger r))) (told ∙ ap writtenOnPaper e)
+        ap (λ (a : Answer ℕ). packetThen a packet (packetsOf m (afterTrigger r))) (told ∙ ap writtenMeaning e)
         ∙ ap (λ (q : Run). packet ++ packetsOf m q) (sym (run-after ∙ ap (afterAnswer r) answered))
 
     pub given-output : after ≡ packet ++ drop 7 out
-    given-output = s .packet .output ∙ ap (λ (a : Answer ℕ). laid a packet out) answered ∙ ap (λ (n : ℕ). packet ++ drop n out) (packet-size r)
+    given-output = s .packet .output ∙ ap (λ (a : Answer ℕ). outputAfter a packet out) answered ∙ ap (λ (n : ℕ). packet ++ drop n out) (packet-size r)
 
   module _ (f : Refusal) (e : t .answer ≡ Refused f) where
     pub refused-packets : packetsOf (suc m) r ≡ []
     unfolding packetsOf
-    refused-packets = ap (λ (a : Answer ℕ). packetThen a packet (packetsOf m (afterTrigger r))) (told ∙ ap writtenOnPaper e)
+    refused-packets = ap (λ (a : Answer ℕ). packetThen a packet (packetsOf m (afterTrigger r))) (told ∙ ap writtenMeaning e)
 
     pub refused-output : after ≡ out
-    refused-output = s .packet .output ∙ ap (λ (a : Answer ℕ). laid a packet out) (sym (s .packet .answer) ∙ ap writtenOnPaper e)
+    refused-output = s .packet .output ∙ ap (λ (a : Answer ℕ). outputAfter a packet out) (sym (s .packet .answer) ∙ ap writtenMeaning e)
 
 -- ---- a turn of the loop
 
@@ -115,7 +115,7 @@ none-given first r n out q = record { same = refl; all = ap₂ packetsOf (let e 
 
 -- and no more are
 all-given : (first : Run) (n i : ℕ) (out₀ out : List ℕ) (r : Run) → TriggersSoFar first n i out₀ out r → 7 * n ≤ length out₀ → i ≤ n
-    → packetsOf (n - i) r ≡ [] → LaysPackets first n out₀ i out
+    → packetsOf (n - i) r ≡ [] → GivesPackets first n out₀ i out
 all-given first n i out₀ out r g en m e =
     let same = g .same in
     let all : packetsOf n first ≡ take (7 * i) out = g .all ∙ ap (λ (l : List ℕ). take (7 * i) out ++ l) e ∙ append-nil (take (7 * i) out) in
@@ -130,7 +130,7 @@ all-given first n i out₀ out r g en m e =
     }
 
 pub at-end : (first : Run) (n i : ℕ) (out₀ out : List ℕ) (r : Run) → TriggersSoFar first n i out₀ out r → 7 * n ≤ length out₀ → i ≤ n
-    → n ≤ i → LaysPackets first n out₀ i out
+    → n ≤ i → GivesPackets first n out₀ i out
 unfolding packetsOf
 at-end first n i out₀ out r g en l m = all-given first n i out₀ out r g en l (ap (λ (k : ℕ). packetsOf k r) (let e : n - i ≡ 0 = omega arith in e))
 
@@ -171,7 +171,7 @@ module _ (first : Run) (n i : ℕ) (out₀ out : List ℕ) (β : Board) (g : Tri
         rest = ap (drop (7 * (i + 1))) whole ∙ put-drop out p (7 * i) (7 * (i + 1)) size fits ∙ sym (past 7 i out) ∙ ap (drop 7) (g .rest) ∙ past 7 i out₀;
       }
 
-  pub one-refused : (f : Refusal) → t .answer ≡ Refused f → LaysPackets first n out₀ i changed
+  pub one-refused : (f : Refusal) → t .answer ≡ Refused f → GivesPackets first n out₀ i changed
   one-refused f e =
       let whole : changed ≡ out =
       back out after (7 * i)
@@ -182,6 +182,6 @@ module _ (first : Run) (n i : ℕ) (out₀ out : List ℕ) (β : Board) (g : Tri
       rw whole (all-given first n i out₀ out (β .run) g en (omega arith) none)
 
 -- after two commands
-pub laid-on : (w : List ℕ) (b : AfterCommands) → ObeysAll 2 w b → (count : ℕ) (out : List ℕ) (n : ℕ) (after : List ℕ)
-    → LaysPackets (b .board .run) count out n after → LaysPackets (afterTwo w .run) count out n after
-laid-on w b obeyed count out n after l = rw (obeyed .board) at l
+pub output-on : (w : List ℕ) (b : AfterCommands) → ObeysAll 2 w b → (count : ℕ) (out : List ℕ) (n : ℕ) (after : List ℕ)
+    → GivesPackets (b .board .run) count out n after → GivesPackets (afterTwo w .run) count out n after
+output-on w b obeyed count out n after l = rw (obeyed .board) at l

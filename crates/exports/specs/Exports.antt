@@ -6,7 +6,7 @@ use mathlib.Core.List.{List, [], _∷_, _++_}
 use lib.Dec.{eqb, ltb}
 use lib.ListN.{length, getD, take, drop}
 use Rattle.refusals.specs.Tables.{Answer, given, refused, lowest}
-use Rattle.refusals.specs.Writing.{writingBy, laid}
+use Rattle.refusals.specs.Writing.{writingBy, outputAfter}
 use Rattle.packets.specs.Packets.{packetBytes, packetAnswer}
 use Rattle.packets.specs.declared.Fields.{Fields}
 use Rattle.bounds.specs.Bounds.{boundOf, lentRules}
@@ -15,8 +15,8 @@ use Rattle.blocks.specs.declared.Header.{Header}
 use Rattle.block_reader.specs.declared.Kind.the-variants.{Static}
 use Rattle.round_trips.specs.Blocks.{ReadsBack}
 use Rattle.command_reader.specs.Reading.{commandAnswer, restOf}
-use Rattle.steps.specs.Steps.{heardIn, silence}
-use Rattle.steps.specs.declared.Heard.{Heard}
+use Rattle.steps.specs.Steps.{judgedReply, noReply}
+use Rattle.steps.specs.declared.Judged.{Judged}
 use Rattle.run.specs.Run.{clockedRun, triggerNumber, triggerRules, afterTrigger}
 use Rattle.run.specs.declared.Run.{Run}
 use Rattle.crate_pass.specs.declared.Outcome.{Outcome}
@@ -107,16 +107,16 @@ goodOutcome (given (Again done)) = 0
 goodOutcome (given (BoardFailed done)) = 0
 goodOutcome (refused n p) = 0
 
--- what is heard of the first item, 29 bytes: a crate's number, and a reply of 28 bytes
-abbrev pub heardFirst : Board → List ℕ → Heard
-heardFirst β items = heardIn (frameAt β (getD items 0 0)) (take 28 (drop 1 items))
+-- the first item judged, 29 bytes: a crate's number, and a reply of 28 bytes
+abbrev pub judgedFirst : Board → List ℕ → Judged
+judgedFirst β items = judgedReply (frameAt β (getD items 0 0)) (take 28 (drop 1 items))
 
 -- how many of the first n items get a good answer, each on the board that the one before left
 unfoldable pub goodOf : ℕ → Board → List ℕ → ℕ
 goodOf zero β items = 0
 goodOf (suc n) β items =
-    goodOutcome (replyAnswer β (getD items 0 0) (heardFirst β items))
-    + goodOf n (boardReplied β (getD items 0 0) (heardFirst β items)) (drop 29 items)
+    goodOutcome (replyAnswer β (getD items 0 0) (judgedFirst β items))
+    + goodOf n (boardReplied β (getD items 0 0) (judgedFirst β items)) (drop 29 items)
 
 -- how many of the items get a good answer, after the first command of the words
 unfoldable pub passOf : List ℕ → List ℕ → ℕ
@@ -132,7 +132,7 @@ CountsPass w items out r after = Gives (passRefusal (firstRefusal 1 (freshBoard 
 -- how many time-ups are served, one after another on these crates
 unfoldable pub servedOf : Board → List ℕ → ℕ
 servedOf β [] = 0
-servedOf β (i ∷ is) = isGiven (replyAnswer β i silence) + servedOf (boardReplied β i silence) is
+servedOf β (i ∷ is) = isGiven (replyAnswer β i noReply) + servedOf (boardReplied β i noReply) is
 
 abbrev pub CountsTimeUps : List ℕ → List ℕ → List ℕ → ℕ → List ℕ → Type 0
 CountsTimeUps w is out r after = GivesCount (firstRefusal 1 (freshBoard 0 0) w) (servedOf (afterOne w) is) out r after
@@ -210,5 +210,5 @@ staticAnswer block out = writingBy (blockRules (lentRules boundOf 436 block) hea
 -- r is the number of that answer, 0 where the block is written, and the lent words `out` became `after`: what was written reads back
 pub record StaticRound (block out : List ℕ) (r : ℕ) (after : List ℕ) : Type 0 where
   pub number : r ≡ answerNumber (staticAnswer block out)
-  pub output : after ≡ laid (staticAnswer block out) (headerWords headerOfZeros ++ block) out
+  pub output : after ≡ outputAfter (staticAnswer block out) (headerWords headerOfZeros ++ block) out
   pub reads : (n : ℕ) → staticAnswer block out ≡ given n → ReadsBack Static (take n after) headerOfZeros block

@@ -1,3 +1,3 @@
 -- What the contracts cite.
 pub mod Exports
-pub mod Parts
+pub mod CodeShape

@@ -6,12 +6,12 @@ ghost use Prim.Native.Nat.{_*_, _/_, _<_, _≤_};
 ghost use lib.ListN.{length};
 ghost use Rattle.crc.specs.Crc.{crc};
 ghost use Rattle.packets.specs.Packets.{packetAnswer};
-ghost use Rattle.crate_pass.specs.Crate.{replyOnPaper};
-ghost use Rattle.acceptance.specs.Acceptance.{answerOnPaper};
+ghost use Rattle.crate_pass.specs.Crate.{replyMeaning};
+ghost use Rattle.acceptance.specs.Acceptance.{answerMeaning};
 ghost use Rattle.exports.specs.Exports.{answerNumber, isGiven, lowerOf, firstOf, leftOver, noRoom, commandGiven, CountsAccepted};
 ghost use Rattle.exports.specs.Exports.{goodOutcome, goodOf, passRefusal, CountsPass, servedOf, CountsTimeUps, MakesSteps, GivesTriggers};
 ghost use Rattle.exports.specs.Exports.{goodPackets, CountsPackets, StaticRound};
-ghost use Rattle.exports.specs.Parts.{ObeysAll, CountsGood, LaysPackets};
+ghost use Rattle.exports.specs.CodeShape.{ObeysAll, CountsGood, GivesPackets};
 use acceptance::CommandAnswer;
 use block_reader::BlockRead;
 use block_reader::Kind;
@@ -33,7 +33,7 @@ use packets::Fields;
 use packets::PacketRead;
 use packets::read_packet;
 use refusals::Written;
-use steps::hear_step;
+use steps::judge_reply;
 use words::copy_words;
 
 // The CRC of bytes.
@@ -85,7 +85,7 @@ fn no_room(due: usize, length: usize) -> u8
 
 // Whether a command is accepted: 1, else 0.
 fn accepted_count(answer: CommandAnswer) -> u64
-    ensures { λ r. ⌜ (r ≡ isGiven (answerOnPaper answer)) × (r ≤ 1) ⌝ }
+    ensures { λ r. ⌜ (r ≡ isGiven (answerMeaning answer)) × (r ≤ 1) ⌝ }
 {
     match answer {
         CommandAnswer::Obeyed(_) => 1,
@@ -95,7 +95,7 @@ fn accepted_count(answer: CommandAnswer) -> u64
 
 // The number of the refusal of a command, 0 where it is accepted.
 fn command_refusal(answer: CommandAnswer) -> u8
-    ensures { λ r. ⌜ r ≡ answerNumber (answerOnPaper answer) ⌝ }
+    ensures { λ r. ⌜ r ≡ answerNumber (answerMeaning answer) ⌝ }
 {
     match answer {
         CommandAnswer::Obeyed(_) => 0,
@@ -161,7 +161,7 @@ pub extern "C" fn ftm_commands(words: &[u16], count: u64, accepted: &mut [u64]) 
 
 // Whether an answer is good: 1, else 0.
 fn good_count(answer: ReplyAnswer) -> u64
-    ensures { λ r. ⌜ (r ≡ goodOutcome (replyOnPaper answer)) × (r ≤ 1) ⌝ }
+    ensures { λ r. ⌜ (r ≡ goodOutcome (replyMeaning answer)) × (r ≤ 1) ⌝ }
 {
     match answer {
         ReplyAnswer::Served(o) => match o {
@@ -187,8 +187,8 @@ fn good_replies(first: [Crate; 4], block: &[u16], kind: PassKind, items: &[u8]) 
             let at = index as usize;
             let own = crates[at];
             let reply = &items[29 * i + 1..29 * i + 29];
-            let heard = hear_step(block, index, own.board, own.code, reply);
-            let served = own.serve(kind, active_word(block, index), heard);
+            let judged = judge_reply(block, index, own.board, own.code, reply);
+            let served = own.serve(kind, active_word(block, index), judged);
             let state = served.state;
             let answer = served.answer;
             crates[at] = state;
@@ -261,7 +261,7 @@ pub extern "C" fn ftm_replies(words: &[u16], items: &[u8], good: &mut [u64]) -> 
 
 // Whether a time-up is served: 1, else 0.
 fn served_count(answer: ReplyAnswer) -> u64
-    ensures { λ r. ⌜ (r ≡ isGiven (replyOnPaper answer)) × (r ≤ 1) ⌝ }
+    ensures { λ r. ⌜ (r ≡ isGiven (replyMeaning answer)) × (r ≤ 1) ⌝ }
 {
     match answer {
         ReplyAnswer::Served(_) => 1,
@@ -329,7 +329,7 @@ pub extern "C" fn ftm_clock_steps(words: &[u16], ticks: &[u32], out: &mut [u64])
 // `count` triggers of n = 4, or as many as are not refused, whose packets go into the lent bytes one after another. How many were given.
 fn given_triggers(first: Board, count: usize, out: &mut [u8]) -> u64
     requires { ⌜ 7 * count ≤ length (now out) ⌝ }
-    ensures { λ r. ⌜ LaysPackets (first .run) count (now (out .entry)) r (now (out .exit)) ⌝ }
+    ensures { λ r. ⌜ GivesPackets (first .run) count (now (out .entry)) r (now (out .exit)) ⌝ }
 {
     let fields = Fields {
         n: 4,

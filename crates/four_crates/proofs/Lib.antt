@@ -2,4 +2,4 @@
 pub mod Entries
 pub mod Records
 pub mod OneCrate
-pub mod Apart
+pub mod Injective

@@ -7,7 +7,7 @@ use mathlib.Core.List.{List, [], _∷_}
 use borrow.Author.Tests.{lt-ltb, le-ltb}
 use Rattle.refusals.specs.Tables.{given, refused, lowest}
 use Rattle.refusals.proofs.Tables.{Exactly, exactly}
-use Rattle.steps.specs.declared.Heard.{Heard}
+use Rattle.steps.specs.declared.Judged.{Judged}
 use Rattle.crate_pass.specs.Crate.{isDone}
 use Rattle.crate_pass.specs.declared.PassKind.{PassKind}
 use Rattle.crate_pass.specs.declared.Crate.{Crate}
@@ -38,7 +38,7 @@ module _ (cs : List Crate) (i : ℕ) where
   unfolding sentOn
   sent-exactly = exactly (noSuchCrate i ∷ []) (crateOf cs i .sent) tt
 
-  module _ (kind : PassKind) (w : ℕ) (h : Heard) where
+  module _ (kind : PassKind) (w : ℕ) (h : Judged) where
     pub served-exactly : Exactly (servedRules cs i) (movedOn cs i kind w h .outcome) (servedAnswer cs i kind w h)
     unfolding servedAnswer
     served-exactly = exactly (servedRules cs i) (movedOn cs i kind w h .outcome) tt

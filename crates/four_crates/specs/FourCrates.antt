@@ -4,9 +4,9 @@ use mathlib.Core.Bool.{Bool, not, cond, _||_}
 use mathlib.Core.List.{List, [], _∷_}
 use lib.Dec.{eqb, leb, ltb}
 use lib.ListN.{length, getD}
-use Rattle.refusals.specs.Tables.{Answer, given, Rule, rule, lowest, onPaper}
+use Rattle.refusals.specs.Tables.{Answer, given, Rule, rule, lowest, refusalMeaning}
 use Rattle.ftu_list.specs.declared.Entry.{Entry}
-use Rattle.steps.specs.declared.Heard.{Heard}
+use Rattle.steps.specs.declared.Judged.{Judged}
 use Rattle.crate_pass.specs.Crate.{silent, entriesIn, isDone, begunCrate, Moved, moved, crateRules}
 use Rattle.crate_pass.specs.declared.PassKind.{PassKind}
 use Rattle.crate_pass.specs.declared.Outcome.{Outcome}
@@ -50,26 +50,26 @@ abbrev pub servedRules : List Crate → ℕ → List Rule
 servedRules cs i = noSuchCrate i ∷ crateRules (crateOf cs i)
 
 -- the board and the code of the outstanding frame
-abbrev pub outstandingOnPaper : Outstanding → Answer (ℕ × ℕ)
-outstandingOnPaper (Step b code) = given (b, code)
-outstandingOnPaper (Outstanding.Refused r) = onPaper r
+abbrev pub outstandingMeaning : Outstanding → Answer (ℕ × ℕ)
+outstandingMeaning (Step b code) = given (b, code)
+outstandingMeaning (Outstanding.Refused r) = refusalMeaning r
 
 unfoldable pub outstandingAnswer : List Crate → ℕ → Answer (ℕ × ℕ)
 outstandingAnswer cs i = lowest (servedRules cs i) (crateOf cs i .board, crateOf cs i .code)
 
 -- "The number of frames sent on a crate"
-abbrev pub sentOnPaper : FramesSent → Answer ℕ
-sentOnPaper (Number n) = given n
-sentOnPaper (FramesSent.Refused r) = onPaper r
+abbrev pub sentMeaning : FramesSent → Answer ℕ
+sentMeaning (Number n) = given n
+sentMeaning (FramesSent.Refused r) = refusalMeaning r
 
 unfoldable pub sentOn : List Crate → ℕ → Answer ℕ
 sentOn cs i = lowest (noSuchCrate i ∷ []) (crateOf cs i .sent)
 
--- what is heard on crate i moves that crate
-abbrev pub movedOn : List Crate → ℕ → PassKind → ℕ → Heard → Moved
+-- a reply or a time-up on crate i, once it is judged, moves that crate
+abbrev pub movedOn : List Crate → ℕ → PassKind → ℕ → Judged → Moved
 movedOn cs i kind w h = moved kind w (crateOf cs i) h
 
-unfoldable pub servedAnswer : List Crate → ℕ → PassKind → ℕ → Heard → Answer Outcome
+unfoldable pub servedAnswer : List Crate → ℕ → PassKind → ℕ → Judged → Answer Outcome
 servedAnswer cs i kind w h = lowest (servedRules cs i) (movedOn cs i kind w h .outcome)
 
 -- ---- the FTU list: "Board b (0 to 9) of crate c is k = 10c + b"
@@ -110,9 +110,9 @@ recordAt cs n = getD (records cs) n (failure 0 0)
 abbrev pub noSuchRecord : List Crate → ℕ → Rule
 noSuchRecord cs n = rule 18 (leb (length (records cs)) n)
 
-abbrev pub recordOnPaper : RecordFound → Answer Failure
-recordOnPaper (Record f) = given f
-recordOnPaper (RecordFound.Refused r) = onPaper r
+abbrev pub recordMeaning : RecordFound → Answer Failure
+recordMeaning (Record f) = given f
+recordMeaning (RecordFound.Refused r) = refusalMeaning r
 
 unfoldable pub recordAnswer : List Crate → ℕ → Answer Failure
 recordAnswer cs n = lowest (noSuchRecord cs n ∷ []) (recordAt cs n)

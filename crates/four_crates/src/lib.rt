@@ -3,8 +3,8 @@ ghost use mathlib.Core.Path.{_≡_};
 ghost use Prim.Native.Nat.{_<_};
 ghost use lib.ListN.{getD};
 ghost use Rattle.crate_pass.specs.Crate.{entriesIn, silent};
-ghost use Rattle.four_crates.specs.FourCrates.{inPass, begunAll, outstandingOnPaper, outstandingAnswer};
-ghost use Rattle.four_crates.specs.FourCrates.{sentOnPaper, sentOn, entriesOf, failedAt, recordOnPaper, recordAnswer};
+ghost use Rattle.four_crates.specs.FourCrates.{inPass, begunAll, outstandingMeaning, outstandingAnswer};
+ghost use Rattle.four_crates.specs.FourCrates.{sentMeaning, sentOn, entriesOf, failedAt, recordMeaning, recordAnswer};
 use crate_pass::Crate;
 use crate_pass::PassKind;
 use ftu_list::Entry;
@@ -72,7 +72,7 @@ pub fn begin_all(crates: [Crate; 4], kind: PassKind, words: [u16; 4]) -> [Crate;
 
 // The frame outstanding on a crate.
 pub fn outstanding_on(crates: [Crate; 4], index: u8) -> Outstanding
-    ensures { λ r. ⌜ outstandingOnPaper r ≡ outstandingAnswer crates index ⌝ }
+    ensures { λ r. ⌜ outstandingMeaning r ≡ outstandingAnswer crates index ⌝ }
 {
     if 3 < index {
         return Outstanding::Refused(Refusal::NoSuchCrate);
@@ -86,7 +86,7 @@ pub fn outstanding_on(crates: [Crate; 4], index: u8) -> Outstanding
 
 // The number of frames sent on a crate.
 pub fn sent_on(crates: [Crate; 4], index: u8) -> FramesSent
-    ensures { λ r. ⌜ sentOnPaper r ≡ sentOn crates index ⌝ }
+    ensures { λ r. ⌜ sentMeaning r ≡ sentOn crates index ⌝ }
 {
     if 3 < index {
         return FramesSent::Refused(Refusal::NoSuchCrate);
@@ -144,7 +144,7 @@ fn failed_at(crates: [Crate; 4], k: usize) -> u8
 
 // The failure record of an ordinal, in rising k.
 pub fn record_at(crates: [Crate; 4], ordinal: usize) -> RecordFound
-    ensures { λ r. ⌜ recordOnPaper r ≡ recordAnswer crates ordinal ⌝ }
+    ensures { λ r. ⌜ recordMeaning r ≡ recordAnswer crates ordinal ⌝ }
 {
     let mut left = ordinal;
     let mut k: u8 = 0;

@@ -1,15 +1,16 @@
 -- Frames of five words of data are those of the words that a code carries, and have 28 bytes.
 -- Assumes nothing.
-use Prim.Native.Nat.{ℕ, _+_, _<_}
+use Prim.Native.Nat.{ℕ, _+_}
 use mathlib.Core.Path.{_≡_, refl, sym, ap, subst, _∙_}
 use mathlib.Core.List.{List, [], _∷_, _++_}
 use native.Mathlib.Omega.{arith}
-use lib.ListN.{length, take, getD, set, replicate, length-append, length-replicate, List·getD-append}
+use lib.ListN.{length, take, getD, set, replicate, length-append, length-replicate}
 use lib.Seq.{length-take-le, take-at, getD-at, set-at}
 use Rattle.words.specs.Words.{bytesOf}
 use Rattle.crc.specs.Crc.{crc}
 use Rattle.configuration.specs.declared.Settings.{Settings}
-use Rattle.frames.specs.Frames.{padded, unchecked, beforeCrc, frameWith, fiveOf, wordsFor}
+use Rattle.frames.specs.Frames.{padded, withoutCrc, frameWith, wordsFor}
+use Rattle.frames.specs.CodeShape.{beforeCrc, fiveOf}
 use Rattle.frames.specs.declared.Code.{Code}
 use Rattle.frames.specs.declared.Code.the-variants.{Dacs, Enables, Prescaling, Ping}
 use Rattle.numbers.proofs.Listed.{listed}
@@ -17,7 +18,7 @@ use Rattle.numbers.proofs.Listed.{listed}
 module _ (address number : ℕ) where
   -- zeros up to five words change nothing
   abbrev FiveWill : List ℕ → Type 0
-  FiveWill l = unchecked address number (fiveOf l) ≡ unchecked address number l
+  FiveWill l = withoutCrc address number (fiveOf l) ≡ withoutCrc address number l
 
   five-will : (s : Settings) → length (s .dacs) ≡ 5 → length (s .enables) ≡ 4 → (code : Code) → FiveWill (wordsFor code s)
   five-will s hd he Dacs = subst FiveWill (listed (s .dacs) 5 hd) refl
@@ -40,34 +41,33 @@ length-padded : (n : ℕ) (l : List ℕ) → length (padded n l) ≡ n
 length-padded n l = length-take-le n (l ++ replicate n 0) (simp (length-append, length-replicate) (omega arith))
 
 module _ (address number : ℕ) (w : List ℕ) where
-  length-unchecked : length (unchecked address number w) ≡ 27
-  length-unchecked = let n = length-padded 21 (bytesOf w) in simp length-append (omega arith)
+  length-without : length (withoutCrc address number w) ≡ 27
+  length-without = let n = length-padded 21 (bytesOf w) in simp length-append (omega arith)
 
   pub frame-length : length (frameWith address number w) ≡ 28
   unfolding frameWith
-  frame-length = length-append (unchecked address number w) _ ∙ ap (λ (n : ℕ). n + 1) length-unchecked
+  frame-length = length-append (withoutCrc address number w) _ ∙ ap (λ (n : ℕ). n + 1) length-without
 
   pub frame-crc : crc (take 27 (frameWith address number w)) ≡ getD (frameWith address number w) 27 0
   unfolding frameWith
   frame-crc =
-      let u = unchecked address number w in
-      ap crc (take-at u (crc u ∷ []) 27 length-unchecked) ∙ sym (getD-at u (crc u) [] 0 27 length-unchecked)
+      let u = withoutCrc address number w in
+      ap crc (take-at u (crc u ∷ []) 27 length-without) ∙ sym (getD-at u (crc u) [] 0 27 length-without)
 
   -- the CRC goes into the place left for it
-  before-crc : crc (take 27 (beforeCrc address number w)) ≡ crc (unchecked address number w)
+  before-crc : crc (take 27 (beforeCrc address number w)) ≡ crc (withoutCrc address number w)
   unfolding beforeCrc
-  before-crc = ap crc (take-at (unchecked address number w) (0 ∷ []) 27 length-unchecked)
+  before-crc = ap crc (take-at (withoutCrc address number w) (0 ∷ []) 27 length-without)
 
   pub crc-stored : (x : ℕ) → x ≡ crc (take 27 (beforeCrc address number w)) → set (beforeCrc address number w) 27 x ≡ frameWith address number w
   unfolding beforeCrc frameWith
   crc-stored x e =
-      let u = unchecked address number w in
-      set-at u 0 [] x 27 length-unchecked ∙ ap (λ (n : ℕ). u ++ (n ∷ [])) (e ∙ before-crc)
+      let u = withoutCrc address number w in
+      set-at u 0 [] x 27 length-without ∙ ap (λ (n : ℕ). u ++ (n ∷ [])) (e ∙ before-crc)
 
   -- elsewhere the two have the same bytes
-  pub before-same : (k : ℕ) → k < 27 → getD (beforeCrc address number w) k 0 ≡ getD (frameWith address number w) k 0
+  pub before-is : beforeCrc address number w ≡ take 27 (frameWith address number w) ++ (0 ∷ [])
   unfolding beforeCrc frameWith
-  before-same k h =
-      let u = unchecked address number w in
-      let l : k < length u = rw length-unchecked h in
-      List·getD-append u (0 ∷ []) 0 k l ∙ sym (List·getD-append u (crc u ∷ []) 0 k l)
+  before-is =
+      let u = withoutCrc address number w in
+      ap (λ (l : List ℕ). l ++ (0 ∷ [])) (sym (take-at u (crc u ∷ []) 27 length-without))

@@ -26,27 +26,15 @@ wordsFor Ping s = []
 abbrev pub padded : ℕ → List ℕ → List ℕ
 padded n l = take n (l ++ replicate n 0)
 
--- no code carries more than five words
-abbrev pub fiveOf : List ℕ → List ℕ
-fiveOf w = padded 5 w
-
 -- "0 is 0x40; 1 destination; 2 sender; 3 firmware; 4 code; 5 to 25 data; 26 CRC errors", where "ours is 192" and "we send zero in 3, 26 and
 -- unused data". "Data words stand from byte 5 in the order of the configuration, two bytes each, high first"
-abbrev pub unchecked : ℕ → ℕ → List ℕ → List ℕ
-unchecked address code w = 0x40 ∷ address ∷ 192 ∷ 0 ∷ code ∷ padded 21 (bytesOf w) ++ (0 ∷ [])
-
--- the 28 bytes before the CRC stands in them: 0 in its place
-unfoldable pub beforeCrc : ℕ → ℕ → List ℕ → List ℕ
-beforeCrc address code w = unchecked address code w ++ (0 ∷ [])
+abbrev pub withoutCrc : ℕ → ℕ → List ℕ → List ℕ
+withoutCrc address code w = 0x40 ∷ address ∷ 192 ∷ 0 ∷ code ∷ padded 21 (bytesOf w) ++ (0 ∷ [])
 
 -- "27 the CRC of 0 to 26"
 unfoldable pub frameWith : ℕ → ℕ → List ℕ → List ℕ
-frameWith address code w = unchecked address code w ++ (crc (unchecked address code w) ∷ [])
+frameWith address code w = withoutCrc address code w ++ (crc (withoutCrc address code w) ∷ [])
 
 -- the frame of a code to board b of crate c
 abbrev pub frameOf : ℕ → ℕ → Code → Settings → List ℕ
 frameOf c b code s = frameWith (addressOf c b) (codeOf code) (wordsFor code s)
-
--- the same before its CRC stands in it
-abbrev pub frameBeforeCrc : ℕ → ℕ → Code → Settings → List ℕ
-frameBeforeCrc c b code s = beforeCrc (addressOf c b) (codeOf code) (wordsFor code s)

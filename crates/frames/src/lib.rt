@@ -1,6 +1,9 @@
 // Slow-control frames: 28 bytes that carry a board's settings, or ping it.
 ghost use mathlib.Core.Path.{_≡_};
-ghost use Rattle.frames.specs.Frames.{codeOf, wordsFor, fiveOf, beforeCrc, frameWith, frameBeforeCrc, frameOf};
+ghost use mathlib.Core.List.{[], _∷_, _++_};
+ghost use lib.ListN.{take};
+ghost use Rattle.frames.specs.Frames.{codeOf, wordsFor, frameWith, frameOf};
+ghost use Rattle.frames.specs.CodeShape.{fiveOf, beforeCrc};
 use configuration::Settings;
 use configuration::address_of;
 use crc::crc8;
@@ -86,9 +89,9 @@ pub fn frame(c: u8, b: u8, code: Code, s: Settings) -> [u8; 28]
     frame_with(address_of(c, b), code.number(), words_for(code, s))
 }
 
-// The same frame before its CRC stands in it, which is enough to hear the reply.
+// The same frame with 0 in the place of its CRC, which is enough to judge the reply.
 pub fn frame_before_crc(c: u8, b: u8, code: Code, s: Settings) -> [u8; 28]
-    ensures { λ r. ⌜ r ≡ frameBeforeCrc c b code s ⌝ }
+    ensures { λ r. ⌜ r ≡ take 27 (frameOf c b code s) ++ (0 ∷ []) ⌝ }
 {
     before_crc(address_of(c, b), code.number(), words_for(code, s))
 }

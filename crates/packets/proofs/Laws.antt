@@ -15,7 +15,7 @@ use Rattle.refusals.specs.declared.Refusal.the-variants.{TriggerFieldOutOfRange
 use Rattle.refusals.specs.declared.Written.{Written}
 use Rattle.refusals.specs.declared.Written.the-variants.{Length, Refused}
 use Rattle.refusals.proofs.Writing.{wrote, wrote-short, wrote-refused, refused≢length}
-use Rattle.packets.specs.Packets.{type1, type2, plain, packetBytes, inRange, writeRules, WrotePacket, packetIn, readRules, packetAnswer}
+use Rattle.packets.specs.Packets.{type1, type2, firstSix, packetBytes, inRange, writeRules, WrotePacket, packetIn, readRules, packetAnswer}
 use Rattle.packets.specs.declared.Fields.{Fields}
 
 -- ---- the ranges
@@ -42,9 +42,9 @@ abbrev front : ℕ → ℕ → ℕ → List ℕ
 front x t₁ t₂ = x % 256 ∷ x / 256 % 256 ∷ x / 256 / 256 % 256 ∷ x / 256 / 256 / 256 % 256 ∷ t₁ ∷ t₂ ∷ []
 
 pub packet-is : (x : ℕ) (f : Fields) (t₁ t₂ c : ℕ) → t₁ ≡ type1 f → t₂ ≡ type2 f → c ≡ crc (front x t₁ t₂) → front x t₁ t₂ ++ (c ∷ []) ≡ packetBytes x f
-unfolding plain
+unfolding firstSix
 packet-is x f t₁ t₂ c e₁ e₂ ec =
-    let e : front x t₁ t₂ ≡ plain x f = ap₂ (front x) e₁ e₂ in
+    let e : front x t₁ t₂ ≡ firstSix x f = ap₂ (front x) e₁ e₂ in
     ap₂ (λ (l : List ℕ) (y : ℕ). l ++ (y ∷ [])) e (ec ∙ ap crc e)
 
 -- ---- the writer
@@ -62,7 +62,7 @@ module _ (x : ℕ) (f : Fields) (out : List ℕ) (r : Bool) (e : r ≡ inRange f
 
   module _ (h : not r ≡ false) where
     pub write-19 : length out < 7 → After (Refused OutputTooShort) out
-    unfolding plain
+    unfolding firstSix
     write-19 s =
         record {
           wrote = wrote-short _ _ _ (rw e at h, tt) 7 refl s;
@@ -73,7 +73,7 @@ module _ (x : ℕ) (f : Fields) (out : List ℕ) (r : Bool) (e : r ≡ inRange f
     pub written : x < 2 ^ 32 → (b : List ℕ) → b ≡ packetBytes x f → 7 ≤ length out
         → After (Length 7)
         (set (set (set (set (set (set (set out 0 (getD b 0 0)) 1 (getD b 1 0)) 2 (getD b 2 0)) 3 (getD b 3 0)) 4 (getD b 4 0)) 5 (getD b 5 0)) 6 (getD b 6 0))
-    unfolding plain
+    unfolding firstSix
     written fits b eb s =
         record {
           wrote = wrote _ _ _ (rw e at h, tt) 7 refl _ s (rw eb (sets-eq (packetBytes x f) out 0 s));

@@ -6,7 +6,7 @@ use mathlib.Core.List.{List, [], _∷_, _++_}
 use lib.Dec.{leb, eqb}
 use lib.ListN.{length, take, getD}
 use Rattle.crc.specs.Crc.{crc}
-use Rattle.refusals.specs.Tables.{Answer, given, Rule, rule, lowest, onPaper}
+use Rattle.refusals.specs.Tables.{Answer, given, Rule, rule, lowest, refusalMeaning}
 use Rattle.refusals.specs.Writing.{Wrote}
 use Rattle.refusals.specs.declared.Written.{Written}
 use Rattle.refusals.specs.declared.Written.the-variants.{Length}
@@ -28,8 +28,8 @@ abbrev pub type2 : Fields → ℕ
 type2 f = 128 * bitOf (f .«tim_source») + 8 * f .«pulser_setting» + 4 * bitOf (f .pedestal) + 2 * bitOf (f .lp2) + bitOf (f .lp1)
 
 -- bytes 0 to 5: "the number, low byte first", and the two types
-unfoldable pub plain : ℕ → Fields → List ℕ
-plain number f =
+unfoldable pub firstSix : ℕ → Fields → List ℕ
+firstSix number f =
     number % 256 ∷ number / 256 % 256 ∷ number / 256 / 256 % 256 ∷ number / 256 / 256 / 256 % 256
     ∷ type1 f
     ∷ type2 f
@@ -37,7 +37,7 @@ plain number f =
 
 -- the seven bytes: "the CRC of bytes 0 to 5" comes last
 abbrev pub packetBytes : ℕ → Fields → List ℕ
-packetBytes number f = plain number f ++ (crc (plain number f) ∷ [])
+packetBytes number f = firstSix number f ++ (crc (firstSix number f) ∷ [])
 
 -- "n is 0 to 40, the setting 0 to 15"
 abbrev pub inRange : Fields → Bool
@@ -84,9 +84,9 @@ packetIn b =
     }
 
 -- what a reader answers, as 01 has it
-abbrev pub readOnPaper : PacketRead → Answer Packet
-readOnPaper (Read p) = given p
-readOnPaper (Refused r) = onPaper r
+abbrev pub readMeaning : PacketRead → Answer Packet
+readMeaning (Read p) = given p
+readMeaning (Refused r) = refusalMeaning r
 
 -- a reader's refusals
 unfoldable pub readRules : List ℕ → List Rule

@@ -1,7 +1,7 @@
 // Trigger packets: seven bytes, written from a number and its fields, and read.
 ghost use mathlib.Core.Path.{_≡_};
 ghost use Prim.Native.Nat.{_<_, _≤_};
-ghost use Rattle.packets.specs.Packets.{bitOf, inRange, packetBytes, numberIn, fieldsIn, writeRules, WrotePacket, readOnPaper, packetAnswer};
+ghost use Rattle.packets.specs.Packets.{bitOf, inRange, packetBytes, numberIn, fieldsIn, writeRules, WrotePacket, readMeaning, packetAnswer};
 use crc::crc_of_six;
 use refusals::Refusal;
 use refusals::Written;
@@ -112,7 +112,7 @@ fn fields_in(type1: u8, type2: u8) -> Fields
 
 // Reads a packet.
 pub fn read_packet(bytes: &[u8]) -> PacketRead
-    ensures { λ r. ⌜ readOnPaper r ≡ packetAnswer (now (bytes .entry)) ⌝ }
+    ensures { λ r. ⌜ readMeaning r ≡ packetAnswer (now (bytes .entry)) ⌝ }
 {
     if bytes.len() != 7 {
         return PacketRead::Refused(Refusal::WrongPacketLength);

@@ -13,7 +13,7 @@ use Rattle.commands.specs.declared.Command.the-variants.{Write}
 use Rattle.command_reader.specs.Reading.{readRules, taken, blockOf}
 use Rattle.command_reader.proofs.Used.{length-block, write-within}
 use Rattle.acceptance.proofs.Deciding.{obeyed-named, obeyed-words, obeyed-read}
-use Rattle.board.specs.State.{situationOf}
+use Rattle.board.specs.State.{statusOf}
 use Rattle.board.specs.Commands.{boardAnswer, written, afterCommand, boardAfter}
 use Rattle.board.specs.declared.Board.{Board}
 
@@ -21,14 +21,14 @@ module _ (β : Board) (w : List ℕ) (c : Command) (e : boardAnswer β w ≡ giv
   -- "X is 0" does not apply
   pub accepted-events : noEvents c ≡ false
   unfolding readRules
-  accepted-events = ap noEvents (sym (obeyed-named w (situationOf β) c e)) ∙ obeyed-words w (situationOf β) c e .1 .1 .1 .1 .1 .1 .0
+  accepted-events = ap noEvents (sym (obeyed-named w (statusOf β) c e)) ∙ obeyed-words w (statusOf β) c e .1 .1 .1 .1 .1 .1 .0
 
 module _ (β : Board) (w : List ℕ) (e : boardAnswer β w ≡ given Write) where
   pub block-length : length (blockOf w) ≡ 436
-  block-length = length-block w (taken Write 441) (obeyed-read w (situationOf β) Write e)
+  block-length = length-block w (taken Write 441) (obeyed-read w (statusOf β) Write e)
 
   pub block-within : lowestAbove boundOf 0 (blockOf w) ≡ 436
-  block-within = write-within w (taken Write 441) (obeyed-read w (situationOf β) Write e) refl
+  block-within = write-within w (taken Write 441) (obeyed-read w (statusOf β) Write e) refl
 
   -- it is what is stored then
   pub written-block : boardAfter β w .block ≡ blockOf w

@@ -1,10 +1,11 @@
 -- What every call keeps (`Holds`), and that power-up gives it.
 -- Assumes nothing.
-use Prim.Native.Nat.{ℕ, zero, suc, _^_, _<_, _≤_, zero-le}
+use Prim.Native.Nat.{ℕ, zero, suc, _<_, _≤_, zero-le}
 use mathlib.Core.Path.{_≡_, refl, sym, ap, _∙_, subst}
 use mathlib.Core.Bool.{false}
 use native.Mathlib.Omega.{arith}
 use lib.ListN.{length, getD, replicate}
+use Rattle.numbers.specs.Numbers.{idLimit}
 use Rattle.bounds.specs.Bounds.{boundOf, lowestAbove}
 use Rattle.crate_pass.specs.Crate.{isDone, crateAtPowerUp}
 use Rattle.crate_pass.specs.Sound.{SoundCrate}
@@ -49,7 +50,7 @@ crate-up (suc (suc zero)) h = refl
 crate-up (suc (suc (suc zero))) h = refl
 crate-up (suc (suc (suc (suc c)))) h = absurd (omega arith)
 
-pub holds-power-up : (id firmware : ℕ) → id < 2 ^ 57 → firmware < 65536 → Holds (freshBoard id firmware)
+pub holds-power-up : (id firmware : ℕ) → id < idLimit → firmware < 65536 → Holds (freshBoard id firmware)
 unfolding freshBoard inPass
 holds-power-up id firmware i f =
     record {

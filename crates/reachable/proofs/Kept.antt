@@ -1,12 +1,13 @@
 -- "An accepted block reads back identical until the next accepted write" (`block-kept`, `static-kept`).
 -- Assumes nothing.
-use Prim.Native.Nat.{ℕ, _^_, _<_}
+use Prim.Native.Nat.{ℕ, _<_}
 use mathlib.Core.Path.{_≡_, refl, sym, _∙_, subst}
 use mathlib.Core.Bool.{true, false}
 use mathlib.Core.List.{List, [], _∷_}
 use lib.ListN.{take}
 use Rattle.refusals.specs.Tables.{Answer, given, refused}
 use Rattle.refusals.specs.declared.Written.the-variants.{Length}
+use Rattle.numbers.specs.Numbers.{idLimit}
 use Rattle.commands.specs.declared.Command.{Command}
 use Rattle.commands.specs.declared.Command.the-variants.{Read, Write, Start, Stop, Ping, CrateReset}
 use Rattle.command_reader.specs.Reading.{blockOf}
@@ -54,7 +55,7 @@ pub block-kept : (β : Board) (w : List ℕ) → boardAnswer β w ≡ given Writ
 block-kept β w e xs free = calls-keep (boardAfter β w) xs free ∙ written-block β w e
 
 -- and the static block that the board then writes reads back with it: from power-up, through any calls, to a write, and on to the state `later`
-module _ (id firmware : ℕ) (i : id < 2 ^ 57) (f : firmware < 65536) (before : List Call) (w : List ℕ) (xs : List Call) where
+module _ (id firmware : ℕ) (i : id < idLimit) (f : firmware < 65536) (before : List Call) (w : List ℕ) (xs : List Call) where
   abbrev now : Board
   now = afterAll (freshBoard id firmware) before
 

@@ -1,7 +1,7 @@
 -- "The list at power-up is 249 zeros" (`list-at-power-up`). "A ping clears the list as it begins" (`list-cleared`); "no other command changes it", nor does
 -- anything else while no ping is under way (`list-stays`).
 -- Assumes nothing.
-use Prim.Native.Nat.{ℕ, _^_, _<_}
+use Prim.Native.Nat.{ℕ, _<_}
 use mathlib.Core.Path.{_≡_, refl, sym, ap, _∙_, subst}
 use mathlib.Core.Bool.{Bool, true, false}
 use mathlib.Core.List.{List, [], _∷_, _++_}
@@ -12,6 +12,7 @@ use lib.ListN.{length, set, replicate}
 use borrow.Author.Tests.{ltb-true, ltb-false, leb-false}
 use Rattle.refusals.specs.Tables.{Answer, given, refused}
 use Rattle.refusals.proofs.Writing.{wrote-front}
+use Rattle.numbers.specs.Numbers.{idLimit}
 use Rattle.commands.specs.declared.Command.{Command}
 use Rattle.commands.specs.declared.Command.the-variants.{Read, Write, Start, Stop, Ping, CrateReset}
 use Rattle.blocks.specs.Blocks.{headerWords}
@@ -37,7 +38,7 @@ use Rattle.reachable.specs.Calls.{Call, command, clockStep, trigger, rep
 use Rattle.reachable.specs.Stays.{GivesList, listAtPowerUp, NoPingUnderWay}
 use Rattle.reachable.proofs.OneCall.{false≢true, Free, none-first}
 use Rattle.reachable.proofs.Holding.{Holds, holds-power-up}
-use Rattle.reachable.proofs.OnPasses.{heardOn, next, at-set, replied-done}
+use Rattle.reachable.proofs.OnPasses.{judgedOn, next, at-set, replied-done}
 use Rattle.reachable.proofs.PassStays.{replied-same}
 use Rattle.reachable.proofs.States.{holds-kept, holds-all}
 
@@ -83,19 +84,19 @@ same-step β c e h p l d =
     let four = h .reaches .four in
     let code : IsCode Reprogramming (crateAt β c .code) = rw p at (h .reaches .crates c l .code (leb-false _ _ d)) in
     same-crate β c (next β c e) (omega arith)
-    (entries-stay (β .kind) (wordOf (β .block) c) (crateAt β c) (heardOn β c e) (λ q. let m = code .1 in omega arith))
+    (entries-stay (β .kind) (wordOf (β .block) c) (crateAt β c) (judgedOn β c e) (λ q. let m = code .1 in omega arith))
 
-same-event : (β : Board) (c : ℕ) (e : Event) → Holds β → NoPingUnderWay β → Same β (boardReplied β c (heardOn β c e))
+same-event : (β : Board) (c : ℕ) (e : Event) → Holds β → NoPingUnderWay β → Same β (boardReplied β c (judgedOn β c e))
 unfolding withCrates
-same-event β c e h (inr d) = rw (replied-same β c (heardOn β c e) d) (record { list = refl; still = inr d })
+same-event β c e h (inr d) = rw (replied-same β c (judgedOn β c e) d) (record { list = refl; still = inr d })
 same-event β c e h (inl p) = go (ltb c 4) refl (isDone (crateAt β c)) refl
   where
-    go : (t : Bool) → ltb c 4 ≡ t → (u : Bool) → isDone (crateAt β c) ≡ u → Same β (boardReplied β c (heardOn β c e))
-    go false q u d = rw (board-high β c (heardOn β c e) (ltb-false c 4 q)) (record { list = refl; still = inl p })
-    go true q true d = rw (replied-done β c (heardOn β c e) (ltb-true c 4 q) d) (record { list = refl; still = inl p })
+    go : (t : Bool) → ltb c 4 ≡ t → (u : Bool) → isDone (crateAt β c) ≡ u → Same β (boardReplied β c (judgedOn β c e))
+    go false q u d = rw (board-high β c (judgedOn β c e) (ltb-false c 4 q)) (record { list = refl; still = inl p })
+    go true q true d = rw (replied-done β c (judgedOn β c e) (ltb-true c 4 q) d) (record { list = refl; still = inl p })
     go true q false d =
         let l = ltb-true c 4 q in
-        subst (Same β) (sym (board-low β c (heardOn β c e) (omega arith))) (record { list = same-step β c e h p l d; still = inl p })
+        subst (Same β) (sym (board-low β c (judgedOn β c e) (omega arith))) (record { list = same-step β c e h p l d; still = inl p })
 
 same-call : (β : Board) (x : Call) → Holds β → Free isPing β x → NoPingUnderWay β → Same β (afterCall β x)
 unfolding afterCall withRun
@@ -118,7 +119,7 @@ same-calls β (x ∷ xs) h e n =
 gives-list : (β : Board) (body : List ℕ) → listBody (listOf β) ≡ body → GivesList β body
 gives-list β body e out after n w = wrote-front _ _ out n after (w .wrote) ∙ ap (λ (l : List ℕ). headerWords (headerOf β) ++ l) e
 
-module _ (id firmware : ℕ) (i : id < 2 ^ 57) (f : firmware < 65536) where
+module _ (id firmware : ℕ) (i : id < idLimit) (f : firmware < 65536) where
   module _ (before xs : List Call) where
     abbrev now : Board
     now = afterAll (freshBoard id firmware) before

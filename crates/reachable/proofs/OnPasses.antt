@@ -1,6 +1,6 @@
 -- Writes and pings begin a pass, replies and time-ups move one crate in it, and all keep what holds.
 -- Assumes nothing.
-use Prim.Native.Nat.{ℕ, zero, suc, _<_, _≤_, _^_}
+use Prim.Native.Nat.{ℕ, zero, suc, _<_, _≤_}
 use mathlib.Core.Path.{_≡_, refl, sym, _∙_, subst}
 use mathlib.Core.Bool.{Bool, true, false, not, _&&_, _||_}
 use mathlib.Core.List.{List}
@@ -10,11 +10,12 @@ use lib.ListN.{length, getD, set, length-set}
 use lib.Seq.{getD-set-same, getD-set-other}
 use borrow.Author.Tests.{ltb-true, ltb-false, le-ltb, eqb-true, eqb-false}
 use Rattle.refusals.specs.Tables.{Answer, given}
+use Rattle.numbers.specs.Numbers.{idLimit}
 use Rattle.bounds.specs.Bounds.{boundOf, lowestAbove}
 use Rattle.bounds.proofs.Lowest.{lowest-before}
 use Rattle.commands.specs.declared.Command.{Command}
 use Rattle.commands.specs.declared.Command.the-variants.{Write, Ping}
-use Rattle.steps.specs.declared.Heard.{Heard}
+use Rattle.steps.specs.declared.Judged.{Judged}
 use Rattle.steps.proofs.PingReply.{ping-below}
 use Rattle.run.specs.Run.{isRunning}
 use Rattle.run.specs.Sound.{SoundRun}
@@ -31,7 +32,7 @@ use Rattle.command_reader.specs.Reading.{blockOf}
 use Rattle.board.specs.Commands.{boardAnswer, written, pinged, afterCommand}
 use Rattle.board.specs.SlowControl.{frameAt, boardReplied}
 use Rattle.board.specs.declared.Board.{Board}
-use Rattle.any_order.specs.Steps.{Event, heard}
+use Rattle.any_order.specs.Steps.{Event, judged}
 use Rattle.any_order.specs.AnyOrder.{write, ping, wordOf, mostFrames}
 use Rattle.any_order.proofs.Begun.{Begun, begun-after}
 use Rattle.board.proofs.Serving.{board-low, board-high}
@@ -189,34 +190,34 @@ holds-crate β c k h d r sound s =
       walks = λ n m. at-set (β .crates) c k l (λ i j. isDone j ≡ false → Runs (β .kind) (wordOf (β .block) i) j) (λ e. r) n (s .walks n m);
     }
 
-pub replied-done : (β : Board) (c : ℕ) (h : Heard) → c < 4 → isDone (crateAt β c) ≡ true → boardReplied β c h ≡ β
+pub replied-done : (β : Board) (c : ℕ) (h : Judged) → c < 4 → isDone (crateAt β c) ≡ true → boardReplied β c h ≡ β
 unfolding boardReplied servedAnswer
 replied-done β c h l d = let m : c ≤ 3 = omega arith in rw (le-ltb _ _ m, d)
 
--- the crate after what is heard on it
-abbrev pub heardOn : Board → ℕ → Event → Heard
-heardOn β c e = heard (frameAt β c) e
+-- the crate after a reply or a time-up on it
+abbrev pub judgedOn : Board → ℕ → Event → Judged
+judgedOn β c e = judged (frameAt β c) e
 
 abbrev pub next : Board → ℕ → Event → Crate
-next β c e = crateAfter (β .kind) (wordOf (β .block) c) (crateAt β c) (heardOn β c e)
+next β c e = crateAfter (β .kind) (wordOf (β .block) c) (crateAt β c) (judgedOn β c e)
 
 runs-next : (β : Board) (c : ℕ) (e : Event) → Runs (β .kind) (wordOf (β .block) c) (crateAt β c) → Runs (β .kind) (wordOf (β .block) c) (next β c e)
 unfolding crateStep frameAt
 runs-next β c e r = step-runs (β .kind) (β .block) c (crateAt β c) e r
 
 -- a good reply to a ping carries a DNA that is kept
-event-below : (β : Board) (c : ℕ) (e : Event) → crateAt β c .code ≡ 4 → heardOn β c e .good ≡ true → heardOn β c e .dna < 2 ^ 57
+event-below : (β : Board) (c : ℕ) (e : Event) → crateAt β c .code ≡ 4 → judgedOn β c e .good ≡ true → judgedOn β c e .dna < idLimit
 unfolding frameAt
 event-below β c (Event.reply bytes) p g = ping-below (β .block) c (crateAt β c .board) (crateAt β c .code) p bytes g
 event-below β c Event.timeUp p g = false≢true g
 
-pub holds-event : (β : Board) (c : ℕ) (e : Event) → Holds β → Holds (boardReplied β c (heardOn β c e))
+pub holds-event : (β : Board) (c : ℕ) (e : Event) → Holds β → Holds (boardReplied β c (judgedOn β c e))
 holds-event β c e s = go (ltb c 4) refl (isDone (crateAt β c)) refl
   where
-    go : (t : Bool) → ltb c 4 ≡ t → (u : Bool) → isDone (crateAt β c) ≡ u → Holds (boardReplied β c (heardOn β c e))
-    go false p u q = rw (board-high β c (heardOn β c e) (ltb-false _ _ p)) s
-    go true p true q = rw (replied-done β c (heardOn β c e) (ltb-true _ _ p) q) s
+    go : (t : Bool) → ltb c 4 ≡ t → (u : Bool) → isDone (crateAt β c) ≡ u → Holds (boardReplied β c (judgedOn β c e))
+    go false p u q = rw (board-high β c (judgedOn β c e) (ltb-false _ _ p)) s
+    go true p true q = rw (replied-done β c (judgedOn β c e) (ltb-true _ _ p) q) s
     go true p false q =
         let l : c < 4 = ltb-true _ _ p in
-        let sound = sound-after (β .kind) (wordOf (β .block) c) (crateAt β c) (heardOn β c e) (event-below β c e) (s .reaches .crates c l) in
-        subst Holds (sym (board-low β c (heardOn β c e) (omega arith))) (holds-crate β c (next β c e) l q (runs-next β c e (s .walks c l q)) sound s)
+        let sound = sound-after (β .kind) (wordOf (β .block) c) (crateAt β c) (judgedOn β c e) (event-below β c e) (s .reaches .crates c l) in
+        subst Holds (sym (board-low β c (judgedOn β c e) (omega arith))) (holds-crate β c (next β c e) l q (runs-next β c e (s .walks c l q)) sound s)

@@ -13,7 +13,7 @@ use Rattle.run.specs.Sound.{SoundRun}
 use Rattle.run.specs.declared.Run.{Run}
 use Rattle.run.proofs.Sound.{sound-started, sound-stopped, sound-clocked, sound-triggered}
 use Rattle.four_crates.specs.FourCrates.{inPass}
-use Rattle.board.specs.State.{withRun, situationOf}
+use Rattle.board.specs.State.{withRun, statusOf}
 use Rattle.board.specs.Commands.{boardAnswer, afterTriggerOn}
 use Rattle.board.specs.declared.Board.{Board}
 use Rattle.acceptance.proofs.Deciding.{obeyed-now}
@@ -82,7 +82,7 @@ holds-trigger β f out h = go (triggerAnswer (β .run) f out) refl
 pub holds-start : (β : Board) (w : List ℕ) (l : RunLength) → boardAnswer β w ≡ given (Start l) → Holds β → Holds (withRun β (started l))
 holds-start β w l e h =
     holds-run β (started l) h (sound-started l (accepted-events β w (Start l) e))
-    (and-false (isRunning (started l)) _ (idle-apart (isRunning (β .run)) (inPass (β .crates)) (obeyed-now w (situationOf β) (Start l) e)))
+    (and-false (isRunning (started l)) _ (idle-apart (isRunning (β .run)) (inPass (β .crates)) (obeyed-now w (statusOf β) (Start l) e)))
 
 pub holds-stop : (β : Board) → Holds β → Holds (withRun β (stopped (β .run)))
 holds-stop β h = holds-run β (stopped (β .run)) h (sound-stopped (β .run)) refl

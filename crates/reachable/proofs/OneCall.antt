@@ -7,7 +7,7 @@ use mathlib.Core.List.{List, _∷_}
 use native.Mathlib.Omega.{arith}
 use Rattle.refusals.specs.Tables.{Answer, given, refused}
 use Rattle.commands.specs.declared.Command.{Command}
-use Rattle.steps.specs.declared.Heard.{Heard}
+use Rattle.steps.specs.declared.Judged.{Judged}
 use Rattle.crate_pass.specs.declared.Outcome.{Outcome}
 use Rattle.board.specs.State.{withCrates}
 use Rattle.board.specs.Commands.{boardAnswer}
@@ -20,7 +20,7 @@ false≢true e = absurd (let z : _≡_ {A = ℕ} 0 1 = cc in omega arith)
 
 -- ---- a reply or a time-up changes nothing but the crates
 
-module _ (β : Board) (c : ℕ) (h : Heard) where
+module _ (β : Board) (c : ℕ) (h : Judged) where
   replied-rest : boardReplied β c h ≡ withCrates β (boardReplied β c h .crates)
   unfolding boardReplied withCrates
   replied-rest = go (replyAnswer β c h)

@@ -13,7 +13,7 @@ use Rattle.refusals.proofs.Writing.{wrote-front}
 use Rattle.commands.specs.declared.Command.{Command}
 use Rattle.commands.specs.declared.Command.the-variants.{Read, Write, Start, Stop, Ping, CrateReset}
 use Rattle.blocks.specs.Blocks.{headerWords, blockRules}
-use Rattle.steps.specs.declared.Heard.{Heard}
+use Rattle.steps.specs.declared.Judged.{Judged}
 use Rattle.run.specs.declared.Run.{Run}
 use Rattle.four_crates.specs.FourCrates.{inPass, sentOn, failedAt, records}
 use Rattle.four_crates.proofs.Records.{records-begun}
@@ -41,14 +41,14 @@ command-run β block (given (CrateReset c)) e = refl
 command-run β block (refused n p) e = refl
 
 -- nothing is outstanding on any crate, or there is no such crate
-pub replied-same : (β : Board) (c : ℕ) (h : Heard) → inPass (β .crates) ≡ false → boardReplied β c h ≡ β
+pub replied-same : (β : Board) (c : ℕ) (h : Judged) → inPass (β .crates) ≡ false → boardReplied β c h ≡ β
 replied-same β c h d = go (ltb c 4) refl
   where
     go : (t : Bool) → ltb c 4 ≡ t → boardReplied β c h ≡ β
     go true p = let l = ltb-true c 4 p in replied-done β c h l (all-done (β .crates) d c l)
     go false p = board-high β c h (ltb-false c 4 p)
 
-replied-run : (β : Board) (c : ℕ) (h : Heard) → inPass (β .crates) ≡ false → boardReplied β c h ≡ withRun β (boardReplied β c h .run)
+replied-run : (β : Board) (c : ℕ) (h : Judged) → inPass (β .crates) ≡ false → boardReplied β c h ≡ withRun β (boardReplied β c h .run)
 unfolding withRun
 replied-run β c h d = let e = replied-same β c h d in e ∙ ap (λ (γ : Board). withRun β (γ .run)) (sym e)
 

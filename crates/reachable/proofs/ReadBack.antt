@@ -14,7 +14,7 @@ use Rattle.refusals.specs.declared.Written.{Written}
 use Rattle.refusals.specs.declared.Written.the-variants.{Length}
 use Rattle.refusals.proofs.Tables.{Clear}
 use Rattle.refusals.proofs.Writing.{wrote-length, wrote-clear}
-use Rattle.packets.specs.Packets.{plain, packetBytes, packetAnswer}
+use Rattle.packets.specs.Packets.{firstSix, packetBytes, packetAnswer}
 use Rattle.packets.specs.declared.Fields.{Fields}
 use Rattle.numbers.specs.Numbers.{number}
 use Rattle.bounds.specs.Bounds.{boundOf}
@@ -81,7 +81,7 @@ module _ (β : Board) (h : Reachable β) where
 
   pub packet-reads : (out after : List ℕ) (n : ℕ) (f : Fields) → Wrote (triggerRules (β .run) f) (packetBytes (triggerNumber (β .run)) f) out (Length n) after
       → (n ≡ 7) × (packetAnswer (take n after) ≡ given (record { number = triggerNumber (β .run); fields = f }))
-  unfolding triggerRules plain
+  unfolding triggerRules firstSix
   packet-reads out after n f w =
       let due = packetBytes (triggerNumber (β .run)) f in
       let clear = wrote-clear (triggerRules (β .run) f) due out n after w in

@@ -1,9 +1,10 @@
 -- What holds in every state that a board reaches from power-up (`reachable`).
 -- Assumes nothing.
-use Prim.Native.Nat.{ℕ, _^_, _<_}
+use Prim.Native.Nat.{ℕ, _<_}
 use mathlib.Core.Path.{_≡_, refl}
 use mathlib.Core.List.{List, [], _∷_}
 use Rattle.refusals.specs.Tables.{Answer, given, refused}
+use Rattle.numbers.specs.Numbers.{idLimit}
 use Rattle.commands.specs.declared.Command.{Command}
 use Rattle.commands.specs.declared.Command.the-variants.{Read, Write, Start, Stop, Ping, CrateReset}
 use Rattle.board.specs.State.{freshBoard}
@@ -42,5 +43,5 @@ pub holds-all : (β : Board) (xs : List Call) → Holds β → Holds (afterAll �
 holds-all β [] h = h
 holds-all β (x ∷ xs) h = holds-all (afterCall β x) xs (holds-kept β x h)
 
-pub reachable : (id firmware : ℕ) → id < 2 ^ 57 → firmware < 65536 → (xs : List Call) → Reachable (afterAll (freshBoard id firmware) xs)
+pub reachable : (id firmware : ℕ) → id < idLimit → firmware < 65536 → (xs : List Call) → Reachable (afterAll (freshBoard id firmware) xs)
 reachable id firmware i f xs = holds-reachable _ (holds-all (freshBoard id firmware) xs (holds-power-up id firmware i f))

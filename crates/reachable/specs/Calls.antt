@@ -8,7 +8,7 @@ use Rattle.commands.specs.Commands as commands
 use Rattle.commands.specs.declared.Command.{Command}
 use Rattle.commands.specs.declared.Command.the-variants.{Read, Write, Start, Stop, Ping, CrateReset}
 use Rattle.run.specs.Run.{clockedRun}
-use Rattle.steps.specs.Steps.{heardIn, silence}
+use Rattle.steps.specs.Steps.{judgedReply, noReply}
 use Rattle.board.specs.State.{withRun}
 use Rattle.board.specs.Commands.{boardAnswer, boardAfter, afterTriggerOn}
 use Rattle.board.specs.SlowControl.{frameAt, boardReplied}
@@ -27,8 +27,8 @@ unfoldable pub afterCall : Board → Call → Board
 afterCall β (command words) = boardAfter β words
 afterCall β (clockStep ticks) = withRun β (clockedRun (β .run) ticks)
 afterCall β (trigger fields out) = afterTriggerOn β fields out
-afterCall β (reply c bytes) = boardReplied β c (heardIn (frameAt β c) bytes)
-afterCall β (timeUp c) = boardReplied β c silence
+afterCall β (reply c bytes) = boardReplied β c (judgedReply (frameAt β c) bytes)
+afterCall β (timeUp c) = boardReplied β c noReply
 
 abbrev pub afterAll : Board → List Call → Board
 afterAll β [] = β

@@ -1,9 +1,10 @@
 -- What holds in every state that a board reaches from power-up.
-use Prim.Native.Nat.{ℕ, _<_, _≤_, _^_}
+use Prim.Native.Nat.{ℕ, _<_, _≤_}
 use mathlib.Core.Path.{_≡_}
 use mathlib.Core.Bool.{false, _&&_}
 use mathlib.Core.List.{List}
 use lib.ListN.{length, getD}
+use Rattle.numbers.specs.Numbers.{idLimit}
 use Rattle.bounds.specs.Bounds.{boundOf, lowestAbove}
 use Rattle.configuration.specs.Configuration.{activeWord}
 use Rattle.run.specs.Run.{isRunning}
@@ -21,7 +22,7 @@ pub record SoundFlags (words : List ℕ) : Type 0 where
 
 pub record Reachable (β : Board) : Type 0 where
   -- 01, What we build: "a board ID at or above 2^57 gets 20, and no board"
-  pub id : β .identity .«board_id» < 2 ^ 57
+  pub id : β .identity .«board_id» < idLimit
   pub firmware : β .identity .«firmware_id» < 65536
   -- 01, Command words, and Trigger packets: the three counters, and what they are while a run is on and while none is
   pub run : SoundRun (β .run)

@@ -9,7 +9,7 @@ use script::line_begun;
 use script::read_on;
 
 // The board, and what is read of the next line.
-struct Standing {
+struct ReplayState {
     board: Board,
     reading: Reading,
 }
@@ -31,9 +31,9 @@ fn serve(board: Board, reading: Reading, bytes: &[u8]) -> Board {
 }
 
 // Serves each line that ends in a part of the input.
-fn serve_part(standing: Standing, part: &[u8], bytes: &mut [u8; 2048]) -> Standing {
-    let mut board = standing.board;
-    let mut reading = standing.reading;
+fn serve_part(state: ReplayState, part: &[u8], bytes: &mut [u8; 2048]) -> ReplayState {
+    let mut board = state.board;
+    let mut reading = state.reading;
     let mut i = 0;
     while i < part.len() {
         let character = part[i];
@@ -45,20 +45,20 @@ fn serve_part(standing: Standing, part: &[u8], bytes: &mut [u8; 2048]) -> Standi
         }
         i += 1;
     }
-    Standing { board, reading }
+    ReplayState { board, reading }
 }
 
 // The last line may end with the input.
-fn serve_last(standing: Standing, bytes: [u8; 2048]) {
-    let board = standing.board;
-    let reading = standing.reading;
+fn serve_last(state: ReplayState, bytes: [u8; 2048]) {
+    let board = state.board;
+    let reading = state.reading;
     serve(board, reading, &bytes);
 }
 
 fn main() {
     let up = power_up(0, 0);
     let fresh = up.board;
-    let mut standing = Standing {
+    let mut state = ReplayState {
         board: fresh,
         reading: line_begun(),
     };
@@ -72,8 +72,8 @@ fn main() {
         if n == 0 {
             break;
         }
-        standing = serve_part(standing, &input[..n], &mut bytes);
+        state = serve_part(state, &input[..n], &mut bytes);
         left -= 1;
     }
-    serve_last(standing, bytes);
+    serve_last(state, bytes);
 }

@@ -1,6 +1,6 @@
 -- A reply is good exactly if each of 01's conditions holds, said as plain facts; and its bytes 3 and 26 are free.
 -- Assumes nothing.
-use Prim.Native.Nat.{ℕ, zero, suc, _+_, _^_, _<_, _≤_}
+use Prim.Native.Nat.{ℕ, zero, suc, _+_, _<_, _≤_}
 use mathlib.Core.Path.{_≡_, refl, sym, _∙_}
 use mathlib.Core.Bool.{Bool, true, false, _&&_}
 use mathlib.Core.List.{List, [], _∷_}
@@ -10,6 +10,7 @@ use native.Mathlib.Nat.{eq-or-lt-of-le}
 use borrow.Author.Tests.{eqb-true, eqb-false, eq-eqb, ltb-true}
 use lib.Dec.{eqb, ltb}
 use lib.ListN.{length, getD, take, getD-replicate}
+use Rattle.numbers.specs.Numbers.{idLimit}
 use Rattle.crc.specs.Crc.{crc}
 use Rattle.replies.specs.Replies.{sameFrom, zeros, dnaIn, pingData, dataRight, conditions, allOf, goodReply}
 use Rattle.replies.proofs.Laws.{by-data, ping-zeros, others}
@@ -68,7 +69,7 @@ pub record Good (sent r : List ℕ) : Type 0 where
   pub code : getD r 4 0 ≡ getD sent 4 0
   pub right-crc : crc (take 27 r) ≡ getD r 27 0
   pub equal : (IsPing sent → ⊥) → Agree 5 26 sent r
-  pub below : IsPing sent → dnaIn r < 2 ^ 57
+  pub below : IsPing sent → dnaIn r < idLimit
   pub zeros-after : IsPing sent → (k : ℕ) → 13 ≤ k → k < 26 → getD r k 0 ≡ 0
 
 module _ (sent r : List ℕ) where
@@ -87,8 +88,8 @@ module _ (sent r : List ℕ) where
         code = eqb-true _ _ (at 4);
         right-crc = eqb-true _ _ (at 5);
         equal = λ n. same-agree 21 5 sent r (others sent r n ∙ at 6);
-        below = λ p. ltb-true _ _ (fst (ltb (dnaIn r) (2 ^ 57)) _ (sym (ping-data p) ∙ at 6));
-        zeros-after = λ p k l h. same-agree 13 13 zeros r (snd (ltb (dnaIn r) (2 ^ 57)) _ (sym (ping-data p) ∙ at 6)) k l h ∙ getD-replicate 28 k 0 0 (omega arith);
+        below = λ p. ltb-true _ _ (fst (ltb (dnaIn r) idLimit) _ (sym (ping-data p) ∙ at 6));
+        zeros-after = λ p k l h. same-agree 13 13 zeros r (snd (ltb (dnaIn r) idLimit) _ (sym (ping-data p) ∙ at 6)) k l h ∙ getD-replicate 28 k 0 0 (omega arith);
       }
 
   pub good-if : Good sent r → goodReply sent r ≡ true

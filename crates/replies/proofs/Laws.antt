@@ -1,11 +1,12 @@
 -- What each return of the reply tests is, by the condition that decides it.
 -- Assumes nothing.
-use Prim.Native.Nat.{ℕ, zero, suc, _^_, _<_, _≤_}
+use Prim.Native.Nat.{ℕ, zero, suc, _<_, _≤_}
 use mathlib.Core.Path.{_≡_, sym}
 use mathlib.Core.Bool.{Bool, true, false}
 use mathlib.Core.List.{List, [], _∷_}
 use borrow.Author.Tests.{eq-eqb, ne-eqb, lt-ltb, le-ltb}
 use lib.ListN.{length, getD, take}
+use Rattle.numbers.specs.Numbers.{idLimit}
 use Rattle.crc.specs.Crc.{crc}
 use Rattle.replies.proofs.Same.{and-true, and-false}
 use Rattle.replies.specs.Replies.{sameFrom, zeros, dnaIn, dataRight, conditions, allOf, goodReply}
@@ -62,11 +63,11 @@ module _ (sent r : List ℕ) where
 
   -- ---- the data
 
-  pub ping-bad : getD sent 4 0 ≡ 4 → 2 ^ 57 ≤ dnaIn r → false ≡ dataRight sent r
+  pub ping-bad : getD sent 4 0 ≡ 4 → idLimit ≤ dnaIn r → false ≡ dataRight sent r
   unfolding dataRight
   ping-bad p h = simp (eq-eqb _ _ p, le-ltb _ _ h)
 
-  pub ping-zeros : getD sent 4 0 ≡ 4 → dnaIn r < 2 ^ 57 → sameFrom 13 13 zeros r ≡ dataRight sent r
+  pub ping-zeros : getD sent 4 0 ≡ 4 → dnaIn r < idLimit → sameFrom 13 13 zeros r ≡ dataRight sent r
   unfolding dataRight
   ping-zeros p h = simp (eq-eqb _ _ p, lt-ltb _ _ h)
 

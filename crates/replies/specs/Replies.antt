@@ -1,10 +1,10 @@
 -- 01, Slow control: when a reply is good for a frame sent, and what a good ping reply carries.
-use Prim.Native.Nat.{ℕ, zero, suc, _^_}
+use Prim.Native.Nat.{ℕ, zero, suc}
 use mathlib.Core.Bool.{Bool, true, cond, _&&_}
 use mathlib.Core.List.{List, [], _∷_}
 use lib.Dec.{ltb, eqb}
 use lib.ListN.{length, getD, take, replicate}
-use Rattle.numbers.specs.Numbers.{number}
+use Rattle.numbers.specs.Numbers.{number, idLimit}
 use Rattle.crc.specs.Crc.{crc}
 use Rattle.replies.specs.declared.PingReply.{PingReply}
 
@@ -25,7 +25,7 @@ zeros = replicate 28 0
 
 -- "for a ping, eight bytes of DNA, high first, below 2^57, then zeros"
 abbrev pub pingData : List ℕ → Bool
-pingData r = ltb (dnaIn r) (2 ^ 57) && sameFrom 13 13 zeros r
+pingData r = ltb (dnaIn r) idLimit && sameFrom 13 13 zeros r
 
 -- "data equal to those sent"; a ping, code 4, has the rule above
 unfoldable pub dataRight : List ℕ → List ℕ → Bool

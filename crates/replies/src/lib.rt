@@ -4,6 +4,7 @@ ghost use Prim.Native.Nat.{_-_};
 ghost use lib.ListN.{length, getD};
 ghost use Rattle.replies.specs.Replies.{sameFrom, dnaIn, dataRight, goodReply, carriedIn};
 use crc::crc8;
+use numbers::ID_LIMIT;
 use numbers::number64;
 use numbers::word;
 
@@ -55,7 +56,7 @@ fn data_right(sent: [u8; 28], reply: &[u8]) -> bool
     ensures { λ r. ⌜ r ≡ dataRight sent (now (reply .entry)) ⌝ }
 {
     if sent[4] == 4 {
-        if 144115188075855872 <= dna_in(reply) {
+        if ID_LIMIT <= dna_in(reply) {
             return false;
         }
         return same_from(13, [0u8; 28], reply);

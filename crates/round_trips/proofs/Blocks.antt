@@ -12,7 +12,7 @@ use Rattle.refusals.specs.Tables.{given, Rule}
 use Rattle.refusals.specs.declared.Written.the-variants.{Length}
 use Rattle.refusals.proofs.Writing.{wrote-front}
 use Rattle.words.specs.Words.{wordsIn, bytesOf}
-use Rattle.numbers.specs.Numbers.{digits, number}
+use Rattle.numbers.specs.Numbers.{digits, number, idLimit}
 use Rattle.numbers.proofs.Numbers.{number-digits}
 use Rattle.words.proofs.Bytes.{Below, words-same}
 use Rattle.bounds.specs.Bounds.{boundOf, measurementBound}
@@ -43,7 +43,7 @@ header-back h b id counter =
     }
 
 -- the words of a block whose body has the kind's length, and no word above its bound
-read-back : (kind : Kind) (h : Header) (b : List ℕ) → h .«board_id» < 2 ^ 57 → h .«trigger_counter» < 2 ^ 32 → length b ≡ bodyLength kind
+read-back : (kind : Kind) (h : Header) (b : List ℕ) → h .«board_id» < idLimit → h .«trigger_counter» < 2 ^ 32 → length b ≡ bodyLength kind
     → bodyLength kind ≤ placeAbove kind b → ReadsBack kind (headerWords h ++ b) (asSent h) b
 unfolding headerWords
 read-back kind h b id counter l free =

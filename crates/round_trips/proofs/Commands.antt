@@ -19,7 +19,8 @@ use Rattle.numbers.proofs.Numbers.{number-digits}
 use Rattle.bounds.specs.Bounds.{boundOf}
 use Rattle.bounds.proofs.Lent.{lent-length, lent-within}
 use Rattle.commands.specs.Commands.{blockLength, noEvents, isWrite, listedAs}
-use Rattle.command_reader.specs.Reading.{namedIn, spareSet, Marked, taken, commandAnswer, usedOf, restOf, blockOf}
+use Rattle.command_reader.specs.Reading.{namedIn, spareSet, taken, commandAnswer, usedOf, restOf, blockOf}
+use Rattle.command_reader.specs.CodeShape.{FirstWordsRead}
 use Rattle.commands.specs.declared.BlockKind.the-variants.{Static, Dynamic}
 use Rattle.commands.specs.declared.RunLength.the-variants.{Endless, Counted}
 use Rattle.commands.specs.declared.Command.{Command}
@@ -65,7 +66,7 @@ module _ (b rest : List ℕ) where
   block-long Ping k = refl
   block-long (CrateReset n) k = refl
 
-  marked : (c : Command) → Clear (writeRules c b) → CountFits c → Marked (written c) (given c)
+  marked : (c : Command) → Clear (writeRules c b) → CountFits c → FirstWordsRead (written c) (given c)
   marked c k f = record { five = omega arith; mark = refl; named = named c k f }
 
   long : (c : Command) → Clear (writeRules c b) → 5 + blockLength c ≤ length (written c)

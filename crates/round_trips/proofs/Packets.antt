@@ -15,7 +15,7 @@ use Rattle.refusals.specs.Writing.{writingRules, Wrote}
 use Rattle.refusals.specs.declared.Written.the-variants.{Length}
 use Rattle.refusals.proofs.Writing.{wrote-front, wrote-clear}
 use Rattle.numbers.proofs.Listed.{spread, listed}
-use Rattle.packets.specs.Packets.{bitOf, type1, type2, plain, packetBytes, inRange, writeRules, WrotePacket}
+use Rattle.packets.specs.Packets.{bitOf, type1, type2, firstSix, packetBytes, inRange, writeRules, WrotePacket}
 use Rattle.packets.specs.Packets.{isOdd, numberIn, fieldsIn, packetIn, readRules, packetAnswer}
 use Rattle.packets.specs.declared.Fields.{Fields}
 use Rattle.packets.specs.declared.Packet.{Packet}
@@ -34,7 +34,7 @@ bit-odd false x e = rw e
 
 module _ (x : ℕ) (f : Fields) (hx : x < 2 ^ 32) (hn : f .n ≤ 40) (hs : f .«pulser_setting» ≤ 15) where
   packet-back : packetIn (packetBytes x f) ≡ record { number = x; fields = f }
-  unfolding plain
+  unfolding firstSix
   packet-back =
       let e₁ = bit-lt (f .external1) in
       let e₂ = bit-lt (f .external2) in
@@ -62,9 +62,9 @@ module _ (x : ℕ) (f : Fields) (hx : x < 2 ^ 32) (hn : f .n ≤ 40) (hs : f .«
       }
 
   read-bytes : packetAnswer (packetBytes x f) ≡ given (record { number = x; fields = f })
-  unfolding plain readRules
+  unfolding firstSix readRules
   read-bytes =
-      let sum : not (eqb (crc (plain x f)) (crc (plain x f))) ≡ false = simp (eq-eqb (crc (plain x f)) (crc (plain x f)) refl) in
+      let sum : not (eqb (crc (firstSix x f)) (crc (firstSix x f))) ≡ false = simp (eq-eqb (crc (firstSix x f)) (crc (firstSix x f)) refl) in
       let range : not (inRange (packetIn (packetBytes x f) .fields)) ≡ false =
       ap (λ (p : Packet). not (inRange (p .fields))) packet-back ∙ simp (le-leb _ _ hn, le-leb _ _ hs) in
       read-exactly (packetBytes x f) .clear-only (refl, (sum, (range, tt))) ∙ ap given packet-back
@@ -107,7 +107,7 @@ Same b = packetBytes (packetIn b .number) (packetIn b .fields) ≡ b
 
 seven : (a₀ a₁ a₂ a₃ a₄ a₅ a₆ : ℕ) → a₀ < 256 → a₁ < 256 → a₂ < 256 → a₃ < 256 → a₄ < 256 → a₅ < 256
     → crc (a₀ ∷ a₁ ∷ a₂ ∷ a₃ ∷ a₄ ∷ a₅ ∷ []) ≡ a₆ → Same (a₀ ∷ a₁ ∷ a₂ ∷ a₃ ∷ a₄ ∷ a₅ ∷ a₆ ∷ [])
-unfolding plain
+unfolding firstSix
 seven a₀ a₁ a₂ a₃ a₄ a₅ a₆ h₀ h₁ h₂ h₃ h₄ h₅ e =
     let x = numberIn a₀ a₁ a₂ a₃ in
     let e₀ : x % 256 ≡ a₀ = omega arith in
@@ -119,7 +119,7 @@ seven a₀ a₁ a₂ a₃ a₄ a₅ a₆ h₀ h₁ h₂ h₃ h₄ h₅ e =
     let e₃ : x / 256 / 256 / 256 % 256 ≡ a₃ = rw q₃ (omega arith) in
     let e₄ : type1 (fieldsIn a₄ a₅) ≡ a₄ = simp odd-bit (omega arith) in
     let e₅ : type2 (fieldsIn a₄ a₅) ≡ a₅ = simp odd-bit (type2-bits a₅ h₅) in
-    let six : plain x (fieldsIn a₄ a₅) ≡ a₀ ∷ a₁ ∷ a₂ ∷ a₃ ∷ a₄ ∷ a₅ ∷ [] = λ i. e₀ i ∷ e₁ i ∷ e₂ i ∷ e₃ i ∷ e₄ i ∷ e₅ i ∷ [] in
+    let six : firstSix x (fieldsIn a₄ a₅) ≡ a₀ ∷ a₁ ∷ a₂ ∷ a₃ ∷ a₄ ∷ a₅ ∷ [] = λ i. e₀ i ∷ e₁ i ∷ e₂ i ∷ e₃ i ∷ e₄ i ∷ e₅ i ∷ [] in
     ap₂ (λ (l : List ℕ) (c : ℕ). l ++ (c ∷ [])) six (ap crc six ∙ e)
 
 pub written-read : (b : List ℕ) (p : Packet) → ((i : ℕ) → i < 7 → getD b i 0 < 256) → packetAnswer b ≡ given p → packetBytes (p .number) (p .fields) ≡ b

@@ -6,7 +6,7 @@ use mathlib.Core.Bool.{Bool, true, false, not, cond}
 use mathlib.Core.List.{List}
 use borrow.Author.Tests.{eq-eqb, ne-eqb, eqb-false}
 use Rattle.refusals.specs.Tables.{given}
-use Rattle.refusals.specs.Writing.{writtenOnPaper, Wrote}
+use Rattle.refusals.specs.Writing.{writtenMeaning, Wrote}
 use Rattle.refusals.specs.declared.Refusal.the-variants.{TriggerFieldOutOfRange, NotRunning, TriggerCounterAtEnd}
 use Rattle.refusals.specs.declared.Written.{Written}
 use Rattle.refusals.specs.declared.Written.the-variants.{Refused}
@@ -86,6 +86,6 @@ module _ (r : Run) (f : Fields) (out : List ℕ) where
     room = eqb-false _ _ (clear .1 .1 .0)
 
   -- the run follows the answer
-  pub triggers : (w : Written) (after : List ℕ) → Gives r f out w after → (s : Run) → s ≡ afterAnswer r (writtenOnPaper w)
+  pub triggers : (w : Written) (after : List ℕ) → Gives r f out w after → (s : Run) → s ≡ afterAnswer r (writtenMeaning w)
       → Triggers r f out (record { run = s; answer = w }) after
   triggers w after g s e = record { packet = g; run = e ∙ ap (afterAnswer r) (g .answer) }

@@ -6,7 +6,7 @@ use mathlib.Core.Path.{_≡_, refl, sym, ap, _∙_}
 use mathlib.Core.List.{List}
 use borrow.Author.Tests.{eq-eqb}
 use Rattle.refusals.specs.Tables.{given}
-use Rattle.refusals.specs.Writing.{writtenOnPaper}
+use Rattle.refusals.specs.Writing.{writtenMeaning}
 use Rattle.commands.specs.declared.RunLength.{RunLength}
 use Rattle.packets.specs.declared.Fields.{Fields}
 use Rattle.run.specs.Run.{started, stopped, clockedRun, triggerNumber, isLast, afterTrigger, afterAnswer, Triggers}
@@ -31,7 +31,7 @@ clock-keeps r ticks = (refl, refl, refl)
 -- ---- an accepted trigger
 
 module _ (r : Run) (f : Fields) (out : List ℕ) (t : Triggered) (after : List ℕ) (h : Triggers r f out t after)
-    (n : ℕ) (e : writtenOnPaper (t .answer) ≡ given n) where
+    (n : ℕ) (e : writtenMeaning (t .answer) ≡ given n) where
   -- the run follows it
   pub accepted : t .run ≡ afterTrigger r
   accepted = h .run ∙ ap (afterAnswer r) (sym (h .packet .answer) ∙ e)

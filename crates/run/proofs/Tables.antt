@@ -6,7 +6,7 @@ use mathlib.Core.List.{List}
 use lib.Dec.{T}
 use lib.ListN.{length}
 use Rattle.refusals.specs.Tables.{Answer, refused, rising}
-use Rattle.refusals.specs.Writing.{writingRules, writtenOnPaper, laid}
+use Rattle.refusals.specs.Writing.{writingRules, writtenMeaning, outputAfter}
 use Rattle.refusals.proofs.Tables.{Exactly}
 use Rattle.refusals.proofs.Writing.{writing-exactly}
 use Rattle.packets.specs.Packets.{packetBytes}
@@ -27,8 +27,8 @@ module _ (r : Run) (f : Fields) (out : List ℕ) where
   trigger-exactly = writing-exactly (writingRules (triggerRules r f) (packetBytes (triggerNumber r) f) out) (packetBytes (triggerNumber r) f) out trigger-rises
 
   -- 01, Numbers given when we say no: "A refusal returns its number, the unchanged state where the call has one"; and the lent bytes stay
-  pub nothing-lost : (t : Triggered) (after : List ℕ) → Triggers r f out t after → (n p : ℕ) → writtenOnPaper (t .answer) ≡ refused n p
+  pub nothing-lost : (t : Triggered) (after : List ℕ) → Triggers r f out t after → (n p : ℕ) → writtenMeaning (t .answer) ≡ refused n p
       → (t .run ≡ r) × (after ≡ out)
   nothing-lost t after h n p e =
       let q : triggerAnswer r f out ≡ refused n p = sym (h .packet .answer) ∙ e in
-      (h .run ∙ ap (afterAnswer r) q, h .packet .output ∙ ap (λ (a : Answer ℕ). laid a (packetBytes (triggerNumber r) f) out) q)
+      (h .run ∙ ap (afterAnswer r) q, h .packet .output ∙ ap (λ (a : Answer ℕ). outputAfter a (packetBytes (triggerNumber r) f) out) q)

@@ -6,7 +6,8 @@ use mathlib.Core.Bool.{true, false}
 use mathlib.Core.List.{List}
 use native.Mathlib.Omega.{arith}
 use borrow.Author.Tests.{lt-ltb, le-ltb, le-leb, lt-leb, eq-eqb, ne-eqb}
-use Rattle.script.specs.Script.{isWithin, valueOf, inForm, takesDigit, withDigit, withByte, orderBegun, orderOn, orderBytesOn, readInForm, readOn, bytesInForm, bytesOn}
+use Rattle.script.specs.Script.{isWithin, valueOf}
+use Rattle.script.specs.ByCharacter.{inForm, takesDigit, withDigit, withByte, orderBegun, orderOn, orderBytesOn, readInForm, readOn, bytesInForm, bytesOn}
 use Rattle.script.specs.declared.Form.{Form}
 use Rattle.script.specs.declared.Form.the-variants.{Empty, Comment, Malformed}
 use Rattle.script.specs.declared.Reading.{Reading}

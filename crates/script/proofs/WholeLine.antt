@@ -10,7 +10,8 @@ use lib.Dec.{leb, ltb, eqb}
 use lib.ListN.{length, take, set, length-set}
 use lib.Seq.{take-suc-set}
 use borrow.Author.Tests.{ltb-true, ltb-false, eqb-true, eqb-false, lt-ltb, le-ltb, lt-leb, eq-eqb, ne-eqb}
-use Rattle.script.specs.Script.{Line, passedOver, order, malformed, valueOf, valuesIn, allDigits, bytesFrom, lineOf, lineBegun, inForm, withByte, orderOn, orderBytesOn, readOn, bytesOn, readAll, bytesAll, lineIn}
+use Rattle.script.specs.Script.{Line, passedOver, order, malformed, valueOf, valuesIn, allDigits, bytesFrom, lineOf}
+use Rattle.script.specs.ByCharacter.{lineBegun, inForm, withByte, orderOn, orderBytesOn, readOn, bytesOn, readAll, bytesAll, lineIn}
 use Rattle.script.specs.declared.Form.the-variants.{Comment, Order, Malformed}
 use Rattle.script.specs.declared.Reading.{Reading}
 use Rattle.script.proofs.Characters.{order-space, order-no-digit, order-full, order-digit, order-high, order-low}

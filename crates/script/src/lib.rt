@@ -1,6 +1,7 @@
 // The lines of a replay script: a letter and hexadecimal digits, read a character at a time.
 ghost use mathlib.Core.Path.{_≡_};
-ghost use Rattle.script.specs.Script.{valueOf, lineBegun, inForm, orderOn, orderBytesOn, readOn, bytesOn};
+ghost use Rattle.script.specs.Script.{valueOf};
+ghost use Rattle.script.specs.ByCharacter.{lineBegun, inForm, orderOn, orderBytesOn, readOn, bytesOn};
 
 // What a line is as far as it is read.
 pub enum Form {

@@ -1,18 +1,24 @@
--- What is heard of a frame before its CRC stands in it is what is heard of the frame.
+-- A reply judged against a frame with 0 in the place of its CRC is judged as against the frame.
 -- Assumes nothing.
-use Prim.Native.Nat.{ℕ}
-use mathlib.Core.Path.{_≡_, ap}
+use Prim.Native.Nat.{ℕ, _<_, _≤_}
+use mathlib.Core.Path.{_≡_, ap, _∙_}
 use mathlib.Core.Bool.{Bool}
-use mathlib.Core.List.{List}
-use Rattle.frames.specs.Frames.{beforeCrc, frameWith}
-use Rattle.frames.proofs.Frames.{before-same}
+use mathlib.Core.List.{List, [], _∷_, _++_}
+use lib.ListN.{length, take, getD, List·getD-append}
+use lib.Seq.{length-take-le, getD-take}
 use Rattle.replies.specs.Replies.{carriedIn}
 use Rattle.replies.proofs.Sent.{good-sent}
-use Rattle.steps.specs.Steps.{heardIn}
+use Rattle.steps.specs.Steps.{judgedReply}
 
-pub heard-before : (address number : ℕ) (w r : List ℕ) → heardIn (beforeCrc address number w) r ≡ heardIn (frameWith address number w) r
-unfolding heardIn
-heard-before address number w r =
-    ap
-    (λ (t : Bool). record { good = t; dna = carriedIn r .dna; «crc_errors» = carriedIn r .«crc_errors» })
-    (good-sent (beforeCrc address number w) (frameWith address number w) r (before-same address number w))
+module _ (frame : List ℕ) (h : 27 ≤ length frame) where
+  same : (k : ℕ) → k < 27 → getD (take 27 frame ++ (0 ∷ [])) k 0 ≡ getD frame k 0
+  same k l =
+      let within : k < length (take 27 frame) = rw (length-take-le 27 frame h) l in
+      List·getD-append (take 27 frame) (0 ∷ []) 0 k within ∙ getD-take 27 frame k 0 l
+
+  pub judged-before : (r : List ℕ) → judgedReply (take 27 frame ++ (0 ∷ [])) r ≡ judgedReply frame r
+  unfolding judgedReply
+  judged-before r =
+      ap
+      (λ (t : Bool). record { good = t; dna = carriedIn r .dna; «crc_errors» = carriedIn r .«crc_errors» })
+      (good-sent (take 27 frame ++ (0 ∷ [])) frame r same)

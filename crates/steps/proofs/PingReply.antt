@@ -1,13 +1,14 @@
 -- A good reply to a ping carries a DNA "below 2^57" (`ping-below`).
 -- Assumes nothing.
-use Prim.Native.Nat.{ℕ, _<_, _^_}
+use Prim.Native.Nat.{ℕ, _<_}
 use mathlib.Core.Path.{_≡_}
 use mathlib.Core.Bool.{true}
 use mathlib.Core.List.{List}
 use lib.ListN.{getD}
+use Rattle.numbers.specs.Numbers.{idLimit}
 use Rattle.frames.specs.Frames.{frameWith}
 use Rattle.replies.proofs.Conditions.{good-only-if}
-use Rattle.steps.specs.Steps.{stepFrame, heardIn}
+use Rattle.steps.specs.Steps.{stepFrame, judgedReply}
 
 module _ (block : List ℕ) (c b code : ℕ) (e : code ≡ 4) where
   -- the frame says that it is one
@@ -15,6 +16,6 @@ module _ (block : List ℕ) (c b code : ℕ) (e : code ≡ 4) where
   unfolding stepFrame frameWith
   says-ping = rw e
 
-  pub ping-below : (bytes : List ℕ) → heardIn (stepFrame block c b code) bytes .good ≡ true → heardIn (stepFrame block c b code) bytes .dna < 2 ^ 57
-  unfolding heardIn
+  pub ping-below : (bytes : List ℕ) → judgedReply (stepFrame block c b code) bytes .good ≡ true → judgedReply (stepFrame block c b code) bytes .dna < idLimit
+  unfolding judgedReply
   ping-below bytes g = good-only-if (stepFrame block c b code) bytes g .below says-ping

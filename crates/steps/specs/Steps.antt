@@ -8,7 +8,7 @@ use Rattle.frames.specs.Frames.{frameOf}
 use Rattle.frames.specs.declared.Code.{Code}
 use Rattle.frames.specs.declared.Code.the-variants.{Dacs, Enables, Prescaling, Ping}
 use Rattle.replies.specs.Replies.{goodReply, carriedIn}
-use Rattle.steps.specs.declared.Heard.{Heard}
+use Rattle.steps.specs.declared.Judged.{Judged}
 
 -- "Code 1 carries the five DACs, 2 the four enables, 3 the prescaling, 4 pings"; there is no other
 abbrev pub codeNumbered : ℕ → Code
@@ -19,8 +19,8 @@ unfoldable pub stepFrame : List ℕ → ℕ → ℕ → ℕ → List ℕ
 stepFrame block c b code = frameOf c b (codeNumbered code) (settingsOf (boardWords block c b))
 
 -- what a reply says as the answer to the frame sent: whether it is good, and the DNA and the CRC error byte that a ping reply carries
-unfoldable pub heardIn : List ℕ → List ℕ → Heard
-heardIn sent reply =
+unfoldable pub judgedReply : List ℕ → List ℕ → Judged
+judgedReply sent reply =
     record {
       good = goodReply sent reply;
       dna = carriedIn reply .dna;
@@ -28,5 +28,5 @@ heardIn sent reply =
     }
 
 -- a time-up is no good reply
-abbrev pub silence : Heard
-silence = record { good = false; dna = 0; «crc_errors» = 0 }
+abbrev pub noReply : Judged
+noReply = record { good = false; dna = 0; «crc_errors» = 0 }

@@ -1,8 +1,8 @@
-// A step of a pass on the line: the frame that it sends, and what is heard in reply.
+// A step of a pass on the line: the frame that it sends, and the reply to it, judged.
 ghost use mathlib.Core.Path.{_≡_};
 ghost use mathlib.Core.List.{[]};
 ghost use Rattle.refusals.specs.Writing.{Wrote};
-ghost use Rattle.steps.specs.Steps.{codeNumbered, stepFrame, heardIn, silence};
+ghost use Rattle.steps.specs.Steps.{codeNumbered, stepFrame, judgedReply, noReply};
 use configuration::board_words;
 use configuration::settings_of;
 use frames::Code;
@@ -14,7 +14,7 @@ use replies::carried;
 use replies::is_good;
 
 // What a reply or a time-up says as the answer to a frame: whether it is good, and what a ping reply carries.
-pub struct Heard {
+pub struct Judged {
     pub good: bool,
     pub dna: u64,
     pub crc_errors: u8,
@@ -60,31 +60,31 @@ pub fn write_frame(f: [u8; 28], out: &mut [u8]) -> Written
 
 // What a reply of any length says as the answer to the frame sent. (A part lent on, even the whole, is not copied on the way; a slice handed
 // on is.)
-fn hear(sent: [u8; 28], reply: &[u8]) -> Heard
-    ensures { λ r. ⌜ r ≡ heardIn sent (now (reply .entry)) ⌝ }
+fn judge(sent: [u8; 28], reply: &[u8]) -> Judged
+    ensures { λ r. ⌜ r ≡ judgedReply sent (now (reply .entry)) ⌝ }
 {
     let n = reply.len();
-    let told = carried(&reply[..n]);
-    Heard {
+    let ping = carried(&reply[..n]);
+    Judged {
         good: is_good(sent, reply),
-        dna: told.dna,
-        crc_errors: told.crc_errors,
+        dna: ping.dna,
+        crc_errors: ping.crc_errors,
     }
 }
 
 // What a reply of any length says as the answer to the frame of a step, whose CRC is not needed for it.
-pub fn hear_step(block: &[u16], c: u8, b: u8, code: u8, reply: &[u8]) -> Heard
-    ensures { λ r. ⌜ r ≡ heardIn (stepFrame (now (block .entry)) c b code) (now (reply .entry)) ⌝ }
+pub fn judge_reply(block: &[u16], c: u8, b: u8, code: u8, reply: &[u8]) -> Judged
+    ensures { λ r. ⌜ r ≡ judgedReply (stepFrame (now (block .entry)) c b code) (now (reply .entry)) ⌝ }
 {
     let settings = settings_of(board_words(block, c, b));
-    hear(frame_before_crc(c, b, code_numbered(code), settings), reply)
+    judge(frame_before_crc(c, b, code_numbered(code), settings), reply)
 }
 
 // What a time-up says.
-pub fn nothing_heard() -> Heard
-    ensures { λ r. ⌜ r ≡ silence ⌝ }
+pub fn no_reply() -> Judged
+    ensures { λ r. ⌜ r ≡ noReply ⌝ }
 {
-    Heard {
+    Judged {
         good: false,
         dna: 0,
         crc_errors: 0,

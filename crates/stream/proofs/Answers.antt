@@ -12,7 +12,7 @@ use lib.ListN.{length, take, drop, set, getD, replicate, length-drop, length-rep
 use lib.Seq.{drop-cons, drop-drop, take-all, take-at, drop-nil}
 use borrow.Author.Tests.{ltb-false, lt-ltb, le-ltb}
 use Rattle.refusals.specs.Tables.{Answer, given, refused, Rule}
-use Rattle.refusals.specs.Writing.{writingBy, writingRules, writing, laid, Wrote}
+use Rattle.refusals.specs.Writing.{writingBy, writingRules, writing, outputAfter, Wrote}
 use Rattle.refusals.specs.declared.Written.{Written}
 use Rattle.refusals.proofs.Tables.{Applies, refused-applies, refused-more}
 use Rattle.words.specs.Words.{wordsIn}
@@ -21,12 +21,12 @@ use Rattle.words.proofs.Bytes.{length-words}
 use Rattle.commands.specs.declared.Command.{Command}
 use Rattle.command_reader.specs.Reading.{Taken, readRules, commandIn, commandAnswer, usedOf}
 use Rattle.command_reader.proofs.Used.{used-five, used-fits}
-use Rattle.acceptance.specs.Acceptance.{stateRules, answerOnPaper, decided}
-use Rattle.acceptance.specs.declared.Situation.{Situation}
-use Rattle.board.specs.State.{situationOf, freshBoard, powerUpAnswer, boardFor}
+use Rattle.acceptance.specs.Acceptance.{stateRules, answerMeaning, decided}
+use Rattle.acceptance.specs.declared.Status.{Status}
+use Rattle.board.specs.State.{statusOf, freshBoard, powerUpAnswer, boardFor}
 use Rattle.board.specs.Commands.{boardAfter, Obeys}
 use Rattle.board.specs.declared.Board.{Board}
-use Rattle.board.specs.declared.Obedience.{Obedience}
+use Rattle.board.specs.declared.CommandResult.{CommandResult}
 use Rattle.stream.specs.Stream.{ranOut, numberGiven, stops, numberFor, bytesAfter, answersTo, answersOn, padded, listed}
 use Rattle.stream.specs.declared.Listing.{Listing}
 
@@ -45,7 +45,7 @@ applies-stops : (rs : List Rule) (n p : ℕ) → T (allStop rs) → Applies rs n
 applies-stops (r ∷ rs) n p t (inl h) = ap stops (sym (h .1)) ∙ both-true (stops (r .number)) (allStop rs) t .0
 applies-stops (r ∷ rs) n p t (inr h) = applies-stops rs n p (both-true (stops (r .number)) (allStop rs) t .1) h
 
-module _ (w : List ℕ) (s : Situation) where
+module _ (w : List ℕ) (s : Status) where
   -- a command that its words refuse
   words-stop : (n p : ℕ) → commandAnswer w ≡ refused n p → stops (numberGiven (decided w s)) ≡ true
   unfolding commandAnswer decided readRules
@@ -85,7 +85,7 @@ answers-none (suc m) β (b ∷ bs) h = absurd (let z : ⊥ = omega arith in z)
 -- a command that does not stop the listing takes ten bytes or more
 ten-taken : (β : Board) (bs : List ℕ) → stops (numberFor β bs) ≡ false → length (bytesAfter bs) + 10 ≤ length bs
 ten-taken β bs s =
-    let u = five-used (wordsIn bs) (situationOf β) s in
+    let u = five-used (wordsIn bs) (statusOf β) s in
     let f = used-fits (wordsIn bs) in
     let l = length-words bs in
     let d : length (bytesAfter bs) ≡ length bs - 2 * usedOf (commandAnswer (wordsIn bs)) = length-drop _ bs in
@@ -195,14 +195,14 @@ module _ (bytes : List ℕ) (count : ℕ) (β : Board) (answers rest : List ℕ)
       stored-padded 1 count (answersOn bytes) answers (omega arith) (g .stored)
 
 -- a turn: the board obeys the words that are left, as d says, and its answer's number is n
-pub record Turn (bytes : List ℕ) (count : ℕ) (β : Board) (answers rest : List ℕ) (d : Obedience) (n : ℕ) : Type 0 where
+pub record Turn (bytes : List ℕ) (count : ℕ) (β : Board) (answers rest : List ℕ) (d : CommandResult) (n : ℕ) : Type 0 where
   pub short : length bytes ≤ 65536
   pub before : Answered bytes count β answers rest
   pub more : 0 < length rest + length bytes % 2
   pub obeys : Obeys β rest d
-  pub number : n ≡ numberGiven (answerOnPaper (d .answer))
+  pub number : n ≡ numberGiven (answerMeaning (d .answer))
 
-module _ (bytes : List ℕ) (count : ℕ) (β : Board) (answers rest : List ℕ) (d : Obedience) (n : ℕ) (t : Turn bytes count β answers rest d n) where
+module _ (bytes : List ℕ) (count : ℕ) (β : Board) (answers rest : List ℕ) (d : CommandResult) (n : ℕ) (t : Turn bytes count β answers rest d n) where
   at : ℕ
   at = t .before .at
 
@@ -218,7 +218,7 @@ module _ (bytes : List ℕ) (count : ℕ) (β : Board) (answers rest : List ℕ)
   words-part = t .before .words ∙ sym (words-left (t .before .at) bytes)
 
   number-part : n ≡ numberFor β part
-  number-part = t .number ∙ ap numberGiven (t .obeys .answer) ∙ ap (λ (v : List ℕ). numberGiven (decided v (situationOf β))) words-part
+  number-part = t .number ∙ ap numberGiven (t .obeys .answer) ∙ ap (λ (v : List ℕ). numberGiven (decided v (statusOf β))) words-part
 
   after : List ℕ
   after = answersTo (length bytes - suc count) (ranOut (boardAfter β (wordsIn part))) (bytesAfter part)
@@ -261,7 +261,7 @@ module _ (bytes : List ℕ) (count : ℕ) (β : Board) (answers rest : List ℕ)
     used-enough : 5 ≤ d .used
     used-enough =
         rw (t .obeys .used)
-        (five-used rest (situationOf β) (ap (λ (a : Answer Command). stops (numberGiven a)) (sym (t .obeys .answer)) ∙ ap stops (sym (t .number)) ∙ s))
+        (five-used rest (statusOf β) (ap (λ (a : Answer Command). stops (numberGiven a)) (sym (t .obeys .answer)) ∙ ap stops (sym (t .number)) ∙ s))
 
     used-there : d .used ≤ length rest
     used-there = rw (t .obeys .used) (used-fits rest)
@@ -311,7 +311,7 @@ unfolding writingBy writingRules
 words-written bytes out after r short size w =
     let n = length-words bytes in
     let e : writing [] (wordsIn bytes) out ≡ given (length (wordsIn bytes)) = simp (le-ltb (length out) (length (wordsIn bytes)) (omega arith)) in
-    ap (take (length bytes / 2)) (w .output ∙ ap (λ (a : Answer ℕ). laid a (wordsIn bytes) out) e)
+    ap (take (length bytes / 2)) (w .output ∙ ap (λ (a : Answer ℕ). outputAfter a (wordsIn bytes) out) e)
     ∙ take-at (wordsIn bytes) (drop (length (wordsIn bytes)) out) (length bytes / 2) n
 
 module _ (bytes : List ℕ) where

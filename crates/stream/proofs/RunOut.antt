@@ -9,9 +9,9 @@ use lib.ListN.{length, set, length-set}
 use lib.Seq.{getD-set-same, getD-set-other}
 use borrow.Author.Tests.{ltb-true, ltb-false, leb-false, leb-true, le-leb, le-ltb}
 use Rattle.configuration.specs.Configuration.{activeWord}
-use Rattle.steps.specs.Steps.{silence}
+use Rattle.steps.specs.Steps.{noReply}
 use Rattle.run.specs.Run.{isRunning}
-use Rattle.crate_pass.specs.Crate.{serves, firstServed, nextBoard, placed, marked, advanced, told, missed, isDone}
+use Rattle.crate_pass.specs.Crate.{serves, firstServed, nextBoard, placed, withRecord, advanced, withOutcome, missed, isDone}
 use Rattle.crate_pass.specs.declared.PassKind.{PassKind}
 use Rattle.crate_pass.specs.declared.Outcome.the-variants.{Again, BoardFailed}
 use Rattle.crate_pass.specs.declared.Crate.{Crate}
@@ -23,7 +23,7 @@ use Rattle.stream.specs.Stream.{timeUps, ranOut}
 
 -- ---- a run of time-ups, one at a time
 
-pub more-time-ups : (n c : ℕ) (β : Board) (i : ℕ) → i < n → timeUps (n - i) c β ≡ timeUps (n - (i + 1)) c (boardReplied β c silence)
+pub more-time-ups : (n c : ℕ) (β : Board) (i : ℕ) → i < n → timeUps (n - i) c β ≡ timeUps (n - (i + 1)) c (boardReplied β c noReply)
 unfolding timeUps
 more-time-ups n c β i h = let l : n - i ≡ suc (n - (i + 1)) = omega arith in rw l
 
@@ -66,18 +66,18 @@ next-from kind w b h = first-from kind w (10 - b) b (omega arith)
 
 -- a time-up on a crate that is not done, by whether there is another send, takes one of them
 abbrev missedBy : PassKind → ℕ → Crate → Bool → Crate
-missedBy kind w k t = cond t (placed k (k .board) (k .code) (k .tries + 1)) (advanced kind w (marked k))
+missedBy kind w k t = cond t (placed k (k .board) (k .code) (k .tries + 1)) (advanced kind w (withRecord k))
 
 missed-by : (kind : PassKind) (w : ℕ) (k : Crate) → missed kind w k .state ≡ missedBy kind w k (ltb (k .tries) 2)
 unfolding missed
 missed-by kind w k = go (ltb (k .tries) 2)
   where
-    go : (t : Bool) → cond t (told Again (placed k (k .board) (k .code) (k .tries + 1))) (told BoardFailed (advanced kind w (marked k))) .state ≡ missedBy kind w k t
+    go : (t : Bool) → cond t (withOutcome Again (placed k (k .board) (k .code) (k .tries + 1))) (withOutcome BoardFailed (advanced kind w (withRecord k))) .state ≡ missedBy kind w k t
     go true = refl
     go false = refl
 
 by-enough : (kind : PassKind) (w : ℕ) (k : Crate) (n : ℕ) (t : Bool) → ltb (k .tries) 2 ≡ t → k .board < 10 → Enough (suc n) k → Enough n (missedBy kind w k t)
-unfolding placed advanced marked
+unfolding placed advanced withRecord
 by-enough kind w k n true p h e = again-enough n (k .board) (k .tries) (ltb-true _ _ p) e
 by-enough kind w k n false p h e =
     let f = next-from kind w (k .board + 1) (omega arith) in
@@ -92,11 +92,11 @@ missed-enough kind w k n h e = subst (Enough n) (sym (missed-by kind w k)) (by-e
 abbrev timedUp : Board → ℕ → Bool → Board
 timedUp β i t = cond t β (withCrates β (set (β .crates) i (missed (β .kind) (activeWord (β .block) i) (crateAt β i) .state)))
 
-timed-up : (β : Board) (i : ℕ) → i < 4 → boardReplied β i silence ≡ timedUp β i (isDone (crateAt β i))
+timed-up : (β : Board) (i : ℕ) → i < 4 → boardReplied β i noReply ≡ timedUp β i (isDone (crateAt β i))
 unfolding boardReplied servedAnswer
 timed-up β i h = go (isDone (crateAt β i)) refl
   where
-    go : (t : Bool) → isDone (crateAt β i) ≡ t → boardReplied β i silence ≡ timedUp β i t
+    go : (t : Bool) → isDone (crateAt β i) ≡ t → boardReplied β i noReply ≡ timedUp β i t
     go true p = simp (le-ltb 3 i (omega arith), p)
     go false p = simp (le-ltb 3 i (omega arith), p)
 
@@ -121,16 +121,16 @@ run-apart : (n i : ℕ) (β : Board) → i < 4 → Apart i β (timeUps n i β)
 unfolding timeUps
 run-apart zero i β h = record { run = refl; many = refl; others = λ j g. refl }
 run-apart (suc n) i β h =
-    let a = run-apart n i (boardReplied β i silence) h in
-    let b : Apart i β (boardReplied β i silence) = subst (Apart i β) (sym (timed-up β i h)) (timed-apart β i (isDone (crateAt β i))) in
+    let a = run-apart n i (boardReplied β i noReply) h in
+    let b : Apart i β (boardReplied β i noReply) = subst (Apart i β) (sym (timed-up β i h)) (timed-apart β i (isDone (crateAt β i))) in
     record { run = a .run ∙ b .run; many = a .many ∙ b .many; others = λ j g. a .others j g ∙ b .others j g }
 
 run-enough : (n i : ℕ) (β : Board) → i < 4 → length (β .crates) ≡ 4 → Enough n (crateAt β i) → Enough 0 (crateAt (timeUps n i β) i)
 unfolding timeUps
 run-enough zero i β h l e = e
 run-enough (suc n) i β h l e =
-    let b : Apart i β (boardReplied β i silence) = subst (Apart i β) (sym (timed-up β i h)) (timed-apart β i (isDone (crateAt β i))) in
-    run-enough n i (boardReplied β i silence) h (b .many ∙ l)
+    let b : Apart i β (boardReplied β i noReply) = subst (Apart i β) (sym (timed-up β i h)) (timed-apart β i (isDone (crateAt β i))) in
+    run-enough n i (boardReplied β i noReply) h (b .many ∙ l)
     (subst (λ (γ : Board). Enough n (crateAt γ i)) (sym (timed-up β i h)) (timed-enough β i n (isDone (crateAt β i)) refl (omega arith) e))
 
 -- ---- the four crates

@@ -8,7 +8,7 @@ use Rattle.refusals.specs.Tables.{Answer, given, refused}
 use Rattle.words.specs.Words.{wordsIn}
 use Rattle.commands.specs.declared.Command.{Command}
 use Rattle.command_reader.specs.Reading.{commandAnswer, usedOf}
-use Rattle.steps.specs.Steps.{silence}
+use Rattle.steps.specs.Steps.{noReply}
 use Rattle.board.specs.State.{freshBoard}
 use Rattle.board.specs.Commands.{boardAnswer, boardAfter}
 use Rattle.board.specs.SlowControl.{boardReplied}
@@ -18,7 +18,7 @@ use Rattle.stream.specs.declared.Listing.{Listing}
 -- n time-ups on crate c
 unfoldable pub timeUps : ℕ → ℕ → Board → Board
 timeUps zero c β = β
-timeUps (suc n) c β = timeUps n c (boardReplied β c silence)
+timeUps (suc n) c β = timeUps n c (boardReplied β c noReply)
 
 -- "each pass runs out before the next command": three sends to each of ten boards end any pass on a crate (proofs/RunOut.antt, `runs-out`).
 -- Time-ups where nothing is outstanding change nothing

@@ -3,7 +3,7 @@ ghost use mathlib.Core.Path.{_≡_};
 ghost use Prim.Native.Nat.{_≤_};
 ghost use lib.ListN.{length, replicate};
 ghost use Rattle.words.specs.Words.{wordsIn};
-ghost use Rattle.acceptance.specs.Acceptance.{answerOnPaper};
+ghost use Rattle.acceptance.specs.Acceptance.{answerMeaning};
 ghost use Rattle.stream.specs.Stream.{timeUps, ranOut, numberGiven, stops, padded, answersOn, listed, inputBytes};
 use acceptance::CommandAnswer;
 use board::Board;
@@ -46,7 +46,7 @@ pub fn run_out(board: Board) -> Board
 
 // The number of an answer, 0 for accepted.
 fn number_given(answer: CommandAnswer) -> u8
-    ensures { λ r. ⌜ r ≡ numberGiven (answerOnPaper answer) ⌝ }
+    ensures { λ r. ⌜ r ≡ numberGiven (answerMeaning answer) ⌝ }
 {
     match answer {
         CommandAnswer::Obeyed(_) => 0,

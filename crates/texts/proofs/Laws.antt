@@ -8,7 +8,8 @@ use native.Mathlib.Numerals.{add-one}
 use borrow.Author.Tests.{lt-ltb, le-ltb}
 use lib.ListN.{length, take, drop, set, getD, length-append}
 use lib.Seq.{sets, sets-eq, length-sets, drop-cons, take-suc, take-nil}
-use Rattle.texts.specs.Texts.{Appended, inFront, decimalIn, joined}
+use Rattle.texts.specs.Texts.{inFront, decimalIn, joined}
+use Rattle.texts.specs.CodeShape.{Appended}
 
 -- ---- one after the other
 
@@ -26,7 +27,7 @@ both {d} {e} {f} {a} {b} {at} {m} {n} {next} {end} p q =
       text = q .text ∙ ap (λ (l : List ℕ). sets l next b) (p .text) ∙ ap (λ (k : ℕ). sets (sets d at a) k b) (p .place) ∙ sets-both d at a b;
     }
 
--- the same characters, said otherwise, with more room
+-- equal characters, with more room
 pub within : {d e a b : List ℕ} {at m n next : ℕ} → b ≡ a → m ≤ n → Appended d at a m next e → Appended d at b n next e
 within {d} {at = at} {next = next} h k p =
     record {

@@ -1,12 +1,10 @@
 -- Replay script: what is printed. "Bytes and words are printed as hexadecimal in capitals, two and four digits, with nothing
 -- between; other numbers in decimal; one space between fields, none at the end."
-use Prim.Native.Nat.{ℕ, zero, suc, _+_, _/_, _%_, _≤_}
-use mathlib.Core.Path.{_≡_}
+use Prim.Native.Nat.{ℕ, zero, suc, _+_, _/_, _%_}
 use mathlib.Core.Bool.{Bool, true, false, cond}
 use mathlib.Core.List.{List, [], _∷_, _++_, map}
 use lib.Dec.{ltb}
 use lib.ListN.{length, take, drop}
-use lib.Seq.{sets}
 use Rattle.commands.specs.declared.BlockKind.{BlockKind}
 use Rattle.commands.specs.declared.BlockKind.the-variants.{Static, Dynamic}
 use Rattle.commands.specs.declared.Command.{Command}
@@ -14,8 +12,8 @@ use Rattle.commands.specs.declared.Command.the-variants.{Read, Write, Start, St
 use Rattle.crate_pass.specs.declared.Outcome.{Outcome}
 use Rattle.crate_pass.specs.declared.Outcome.the-variants.{Good, Again, BoardFailed}
 use Rattle.texts.specs.Characters.{ascii}
-use Rattle.texts.specs.declared.Said.{Said}
-use Rattle.texts.specs.declared.Said.the-variants.{Question, One, Two, Three, Done, Served, Bytes, Words}
+use Rattle.texts.specs.declared.Response.{Response}
+use Rattle.texts.specs.declared.Response.the-variants.{Question, One, Two, Three, Done, Served, Bytes, Words}
 
 -- ---- numbers, as characters
 
@@ -50,13 +48,13 @@ blockText Static = ascii "read static"
 blockText Dynamic = ascii "read dynamic"
 
 -- what was done
-abbrev pub deedText : Command → List ℕ
-deedText (Read kind) = blockText kind
-deedText Write = ascii "write"
-deedText (Start run) = ascii "start"
-deedText Stop = ascii "stop"
-deedText Ping = ascii "ping"
-deedText (CrateReset c) = ascii "reset " ++ decimal c
+abbrev pub commandText : Command → List ℕ
+commandText (Read kind) = blockText kind
+commandText Write = ascii "write"
+commandText (Start run) = ascii "start"
+commandText Stop = ascii "stop"
+commandText Ping = ascii "ping"
+commandText (CrateReset c) = ascii "reset " ++ decimal c
 
 -- "with ` done` after it where the crate is done"
 abbrev pub doneText : Bool → List ℕ
@@ -70,20 +68,20 @@ outcomeText (BoardFailed done) = ascii "failed" ++ doneText done
 
 -- ---- lines
 
--- what a line says, as the script's paper has it
-pub data Reply : Type 0 where
-  question : Reply
-  numbers : List ℕ → Reply
-  done : ℕ → Command → Reply
-  served : Outcome → Reply
-  inBytes : List ℕ → Reply
-  inWords : List ℕ → Reply
+-- what is printed for a line, as the script's paper has it
+pub data Printed : Type 0 where
+  question : Printed
+  numbers : List ℕ → Printed
+  done : ℕ → Command → Printed
+  served : Outcome → Printed
+  inBytes : List ℕ → Printed
+  inWords : List ℕ → Printed
 
 -- its fields
-abbrev pub fieldsOf : Reply → List (List ℕ)
+abbrev pub fieldsOf : Printed → List (List ℕ)
 fieldsOf question = ascii "?" ∷ []
 fieldsOf (numbers ns) = map decimal ns
-fieldsOf (done used c) = ascii "0" ∷ decimal used ∷ deedText c ∷ []
+fieldsOf (done used c) = ascii "0" ∷ decimal used ∷ commandText c ∷ []
 fieldsOf (served o) = ascii "0" ∷ outcomeText o ∷ []
 fieldsOf (inBytes bs) = ascii "0" ∷ joined hexByte bs ∷ []
 fieldsOf (inWords ws) = ascii "0" ∷ joined hexWord ws ∷ []
@@ -95,28 +93,22 @@ spaced (f ∷ []) = f
 spaced (f ∷ g ∷ fs) = f ++ ascii " " ++ spaced (g ∷ fs)
 
 -- the line, with its line feed
-unfoldable pub textOf : Reply → List ℕ
+unfoldable pub textOf : Printed → List ℕ
 textOf r = spaced (fieldsOf r) ++ ascii "\n"
 
 -- what is printed, with the arrays beside it
-abbrev pub saidOnPaper : Said → List ℕ → List ℕ → Reply
-saidOnPaper Question bytes words = question
-saidOnPaper (One a) bytes words = numbers (a ∷ [])
-saidOnPaper (Two a b) bytes words = numbers (a ∷ b ∷ [])
-saidOnPaper (Three a b c) bytes words = numbers (a ∷ b ∷ c ∷ [])
-saidOnPaper (Done used c) bytes words = done used c
-saidOnPaper (Served o) bytes words = served o
-saidOnPaper (Bytes n) bytes words = inBytes (take n bytes)
-saidOnPaper (Words n) bytes words = inWords (take n words)
+abbrev pub responseMeaning : Response → List ℕ → List ℕ → Printed
+responseMeaning Question bytes words = question
+responseMeaning (One a) bytes words = numbers (a ∷ [])
+responseMeaning (Two a b) bytes words = numbers (a ∷ b ∷ [])
+responseMeaning (Three a b c) bytes words = numbers (a ∷ b ∷ c ∷ [])
+responseMeaning (Done used c) bytes words = done used c
+responseMeaning (Served o) bytes words = served o
+responseMeaning (Bytes n) bytes words = inBytes (take n bytes)
+responseMeaning (Words n) bytes words = inWords (take n words)
 
 -- ---- in the lent text
 
 -- a line at the front of a text, the rest as it was
 abbrev pub inFront : List ℕ → List ℕ → List ℕ
 inFront line text = line ++ drop (length line) text
-
--- characters were stored from a place on, at most so many; the place after them
-pub record Appended (before : List ℕ) (at : ℕ) (characters : List ℕ) (most : ℕ) (next : ℕ) (after : List ℕ) : Type 0 where
-  pub place : next ≡ at + length characters
-  pub room : next ≤ at + most
-  pub text : after ≡ sets before at characters

@@ -4,13 +4,14 @@ ghost use mathlib.Core.List.{[], _∷_};
 ghost use Prim.Native.Nat.{_+_, _≤_, _<_, min};
 ghost use lib.ListN.{length, take};
 ghost use Rattle.texts.specs.Characters.{ascii};
-ghost use Rattle.texts.specs.Texts.{done, served, inBytes, inWords, Appended, inFront, hexDigit, hexByte, hexWord, joined, decimal, decimalIn, deedText, doneText, outcomeText, spaced, fieldsOf, textOf, saidOnPaper};
+ghost use Rattle.texts.specs.Texts.{done, served, inBytes, inWords, inFront, hexDigit, hexByte, hexWord, decimal, decimalIn, commandText, doneText, spaced, fieldsOf, textOf, responseMeaning};
+ghost use Rattle.texts.specs.CodeShape.{Appended};
 use commands::BlockKind;
 use commands::Command;
 use crate_pass::Outcome;
 
 // What is printed. The bytes and words stand in arrays beside it.
-pub enum Said {
+pub enum Response {
     // A line in another form.
     Question,
     // Decimal numbers: 0 or a refusal's number first.
@@ -85,9 +86,9 @@ fn append_three(text: &mut [u8; 2048], first: usize, second: usize, third: usize
 }
 
 // What was done for a command.
-fn append_deed(text: &mut [u8; 2048], at: usize, command: Command) -> usize
+fn append_command(text: &mut [u8; 2048], at: usize, command: Command) -> usize
     requires { ⌜ at + 26 ≤ 2048 ⌝ }
-    ensures { λ r. ⌜ Appended (now (text .entry)) at (deedText command) 26 r (now (text .exit)) ⌝ }
+    ensures { λ r. ⌜ Appended (now (text .entry)) at (commandText command) 26 r (now (text .exit)) ⌝ }
 {
     match command {
         Command::Read(kind) => match kind {
@@ -112,7 +113,7 @@ fn append_obeyed(text: &mut [u8; 2048], used: usize, command: Command) -> usize
     let at = append(text, 0, b"0 ");
     let next = append_decimal(text, at, used);
     text[next] = 32;
-    append_deed(text, next + 1, command)
+    append_command(text, next + 1, command)
 }
 
 // " done" where the crate is done.
@@ -207,19 +208,24 @@ fn append_words(text: &mut [u8; 2048], words: &[u16], count: usize) -> usize
     next
 }
 
-// The fields of what is said.
-fn append_fields(text: &mut [u8; 2048], said: Said, bytes: &[u8; 28], words: &[u16; 498]) -> usize
-    ensures { λ r. ⌜ Appended (now (text .entry)) 0 (spaced (fieldsOf (saidOnPaper said (now (bytes .entry)) (now (words .entry))))) 1994 r (now (text .exit)) ⌝ }
+// The fields of what is printed.
+fn append_fields(
+    text: &mut [u8; 2048],
+    response: Response,
+    bytes: &[u8; 28],
+    words: &[u16; 498],
+) -> usize
+    ensures { λ r. ⌜ Appended (now (text .entry)) 0 (spaced (fieldsOf (responseMeaning response (now (bytes .entry)) (now (words .entry))))) 1994 r (now (text .exit)) ⌝ }
 {
-    match said {
-        Said::Question => append(text, 0, b"?"),
-        Said::One(a) => append_decimal(text, 0, a),
-        Said::Two(a, b) => append_two(text, 0, a, b),
-        Said::Three(a, b, c) => append_three(text, a, b, c),
-        Said::Done(used, command) => append_obeyed(text, used, command),
-        Said::Served(outcome) => append_served(text, outcome),
-        Said::Bytes(n) => append_bytes(text, bytes, n),
-        Said::Words(n) => append_words(text, words, n),
+    match response {
+        Response::Question => append(text, 0, b"?"),
+        Response::One(a) => append_decimal(text, 0, a),
+        Response::Two(a, b) => append_two(text, 0, a, b),
+        Response::Three(a, b, c) => append_three(text, a, b, c),
+        Response::Done(used, command) => append_obeyed(text, used, command),
+        Response::Served(outcome) => append_served(text, outcome),
+        Response::Bytes(n) => append_bytes(text, bytes, n),
+        Response::Words(n) => append_words(text, words, n),
     }
 }
 
@@ -232,11 +238,16 @@ fn end_line(text: &mut [u8], at: usize) -> usize
     at + 1
 }
 
-// The line for what is said, at the front of the text; its length.
-pub fn write_said(said: Said, bytes: &[u8; 28], words: &[u16; 498], text: &mut [u8; 2048]) -> usize
-    ensures { λ r. ⌜ r ≡ length (textOf (saidOnPaper said (now (bytes .entry)) (now (words .entry)))) ⌝ }
-    ensures { λ _. ⌜ now (text .exit) ≡ inFront (textOf (saidOnPaper said (now (bytes .entry)) (now (words .entry)))) (now (text .entry)) ⌝ }
+// The line that is printed, at the front of the text; its length.
+pub fn write_response(
+    response: Response,
+    bytes: &[u8; 28],
+    words: &[u16; 498],
+    text: &mut [u8; 2048],
+) -> usize
+    ensures { λ r. ⌜ r ≡ length (textOf (responseMeaning response (now (bytes .entry)) (now (words .entry)))) ⌝ }
+    ensures { λ _. ⌜ now (text .exit) ≡ inFront (textOf (responseMeaning response (now (bytes .entry)) (now (words .entry)))) (now (text .entry)) ⌝ }
 {
-    let end = append_fields(text, said, bytes, words);
+    let end = append_fields(text, response, bytes, words);
     end_line(text, end)
 }

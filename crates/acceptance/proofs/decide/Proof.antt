@@ -1,6 +1,6 @@
 -- `acceptance::decide` meets its contract. Assumes nothing.
 use Rattle.acceptance.proofs.Deciding.{decides-state, decides-refused}
-use Rattle.command_reader.specs.Reading.{readOnPaper}
+use Rattle.command_reader.specs.Reading.{readMeaning}
 use mathlib.Core.Path.{sym, ap, _∙_}
 use borrow.Author.Needs.{needs}
 use Rattle.acceptance.proofs.decide.Statement.{statement}
@@ -19,10 +19,10 @@ enum-known-r : tie.Need-enum-known-r
 enum-known-r c = search needs
 
 returns : tie.Need-returns
-returns c = decides-state _ _ _ _ (sym (c .before .before .before .before .read-command .ensures) ∙ ap readOnPaper (c .before .before .c .given .1)) _ (c .accept .ensures)
+returns c = decides-state _ _ _ _ (sym (c .before .before .before .before .read-command .ensures) ∙ ap readMeaning (c .before .before .c .given .1)) _ (c .accept .ensures)
 
 returns-2 : tie.Need-returns-2
-returns-2 c = decides-refused _ _ _ (sym (ap readOnPaper (c .before .r .given .1)) ∙ c .before .before .before .read-command .ensures)
+returns-2 c = decides-refused _ _ _ (sym (ap readMeaning (c .before .r .given .1)) ∙ c .before .before .before .read-command .ensures)
 
 pub decide-spec : {M : Type 1} → statement M
 decide-spec =

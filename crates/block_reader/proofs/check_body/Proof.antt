@@ -3,7 +3,7 @@ use mathlib.Core.Path.{_≡_, ap, _∙_}
 use lib.ListN.{length, drop}
 use denote.Ref.{now}
 use Rattle.words.proofs.Laws.{part-rest}
-use Rattle.bounds.specs.Bounds.{measurementBound, checkedOnPaper, boundsAnswer}
+use Rattle.bounds.specs.Bounds.{measurementBound, checkedMeaning, boundsAnswer}
 use Rattle.block_reader.specs.Reading.{bodyLength}
 use Rattle.block_reader.proofs.Laws.{static-body, dynamic-above, dynamic-within, list-body, failure-body}
 use borrow.Author.Needs.{needs}
@@ -17,7 +17,7 @@ long c = c .before .before .before .pre ∙ ap bodyLength (c .enum-told2 .given 
 
 -- and its measurements are checked
 measured : (c : tie.After-check-bounds2)
-    → checkedOnPaper (c .check-bounds2 .result) ≡ boundsAnswer measurementBound (drop 3 (now (c .before .before .before .before .before .args .body)))
+    → checkedMeaning (c .check-bounds2 .result) ≡ boundsAnswer measurementBound (drop 3 (now (c .before .before .before .before .before .args .body)))
 measured c = c .check-bounds2 .ensures ∙ ap (boundsAnswer measurementBound) (part-rest (now (c .before .before .before .before .before .args .body)) 3)
 
 enum-told : tie.Need-enum-told

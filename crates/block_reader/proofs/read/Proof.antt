@@ -46,7 +46,7 @@ use denote.Triple.Clauses.{ensured, lasts}
 use Rattle.refusals.specs.Tables.{Answer}
 use Rattle.blocks.specs.declared.Header.{Header}
 use Rattle.words.specs.Parts.{PartOf}
-use Rattle.block_reader.specs.Reading.{readOnPaper, blockAnswer, bodyWhere, ReadsBlock}
+use Rattle.block_reader.specs.Reading.{readMeaning, blockAnswer, bodyWhere, ReadsBlock}
 use Rattle.block_reader.specs.declared.Kind.{Kind}
 use Rattle.block_reader.specs.declared.BlockRead.{BlockRead}
 use Rattle.block_reader.specs.declared.ReadBlock.{ReadBlock}
@@ -118,7 +118,7 @@ module _ {M : Type 1} (𝓤 : URA M) (H : Heap 𝓤) (A : Atoms 𝓤) (W : Given
 
     -- what is known of each result
     abbrev Answered : BlockRead → Type 0
-    Answered r = readOnPaper r ≡ blockAnswer k (now s)
+    Answered r = readMeaning r ≡ blockAnswer k (now s)
 
     abbrev Is-body : Answer Header → RefT (List ℕ) → Type 0
     Is-body a b = PartOf s 11 (bodyWhere a (drop-list 11 (now s))) b
@@ -143,8 +143,8 @@ module _ {M : Type 1} (𝓤 : URA M) (H : Heap 𝓤) (A : Atoms 𝓤) (W : Given
     answer-said : (r : BlockRead) → ent 𝓤 (Answer-ensured r) (fact 𝓤 (Answered r))
     answer-said r = exE 𝓤 _ (λ ws. snd∗ 𝓤 (sem 𝓤 H A (lasts answer.ended (κ, tt) (k, (s, tt)) ws)) (fact 𝓤 (Answered r)))
 
-    body-said : (r : BlockRead) (b : RefT (List ℕ)) → ent 𝓤 (Body-ensured r b) (fact 𝓤 (Is-body (readOnPaper r) b))
-    body-said r b = exE 𝓤 _ (λ ws. snd∗ 𝓤 (sem 𝓤 H A (lasts body.ended (κ, tt) (r, (s, tt)) ws)) (fact 𝓤 (Is-body (readOnPaper r) b)))
+    body-said : (r : BlockRead) (b : RefT (List ℕ)) → ent 𝓤 (Body-ensured r b) (fact 𝓤 (Is-body (readMeaning r) b))
+    body-said r b = exE 𝓤 _ (λ ws. snd∗ 𝓤 (sem 𝓤 H A (lasts body.ended (κ, tt) (r, (s, tt)) ws)) (fact 𝓤 (Is-body (readMeaning r) b)))
 
     module _ (gk : Is K.the-row k (kv ∷ [])) where
       -- the words are had twice, and the kind is made anew
@@ -188,7 +188,7 @@ module _ {M : Type 1} (𝓤 : URA M) (H : Heap 𝓤) (A : Atoms 𝓤) (W : Given
             feqI ! (List Val) (w ∷ []) (w ∷ []) refl $ fjoin ! $
             fpack ! (Valss (rows (D .parts))) (within (shape D) (intos (D .parts) vd) (w ∷ [])) us $ done !
 
-        reads : Answered r → Is-body (readOnPaper r) b → ReadsBlock k s made
+        reads : Answered r → Is-body (readMeaning r) b → ReadsBlock k s made
         reads e₁ e₂ = record { answer = e₁; body = subst (λ (a : Answer Header). Is-body a b) e₁ e₂ }
 
         abbrev Made : List (Item 𝓤)
@@ -230,8 +230,8 @@ module _ {M : Type 1} (𝓤 : URA M) (H : Heap 𝓤) (A : Atoms 𝓤) (W : Given
             (and-then ! (load ! (from ! (stop !)) (look ! 5 refl)) (and-then ! (load ! (from ! (stop !)) (look ! 7 refl)) (no-more !))) (λ u₂.
             use1 W (later (some (λ (b : RefT (List ℕ)). (Token ⊛ ‵ (P .own b (u₂ ∷ []))) ⊛ raw (Body-ensured r b)))) (id⊢ 𝓤 _) $
             await ! tt $ pick ! (λ b.
-            split ! $ move ! (1 ∷ []) $ use1 W (raw (fact 𝓤 (Is-body (readOnPaper r) b))) (body-said r b) $
-            heard ! (Is-body (readOnPaper r) b) (λ e₂. split ! $ move ! (1 ∷ []) $
+            split ! $ move ! (1 ∷ []) $ use1 W (raw (fact 𝓤 (Is-body (readMeaning r) b))) (body-said r b) $
+            heard ! (Is-body (readMeaning r) b) (λ e₂. split ! $ move ! (1 ∷ []) $
             -- [the part; the token; what the words own; the answer; room for _4; …; _3; …; _2; …; _1; …; room for _0; …; true]
             peeks ! P (Is P) (shows 𝓤 H A P) b (u₂ ∷ []) (λ is₂.
             land ! (from ! (stop !)) (init ! 4 refl (shr-slice-lawful 𝓤 H A W erased κ u16 .typed b _ is₂ .0)) $

@@ -45,7 +45,7 @@ use denote.Triple.Walked.{says, Stays, stay-none-slice, walkOf, goes-none-slice,
 use denote.Exit.{yes}
 use denote.Triple.Clauses.{ensured, lasts}
 use Rattle.words.specs.Parts.{PartOf}
-use Rattle.command_reader.specs.Reading.{readOnPaper, commandAnswer, usedOf, blockBefore, restAfter, ReadsCommand}
+use Rattle.command_reader.specs.Reading.{readMeaning, commandAnswer, usedOf, blockBefore, restAfter, ReadsCommand}
 use Rattle.command_reader.specs.declared.CommandRead.{CommandRead}
 use Rattle.command_reader.specs.declared.ReadCommand.{ReadCommand}
 use Rattle.command_reader.proofs.CommandRead as S
@@ -127,10 +127,10 @@ module _ {M : Type 1} (𝓤 : URA M) (H : Heap 𝓤) (A : Atoms 𝓤) (W : Given
 
     -- what is known of each result: the answer, the number of words used, the block and the rest
     abbrev Answered : CommandRead → Type 0
-    Answered r = readOnPaper r ≡ commandAnswer (now s)
+    Answered r = readMeaning r ≡ commandAnswer (now s)
 
     abbrev Used : CommandRead → ℕ → Type 0
-    Used r n = n ≡ usedOf (readOnPaper r)
+    Used r n = n ≡ usedOf (readMeaning r)
 
     abbrev Is-block : ℕ → RefT (List ℕ) → Type 0
     Is-block n b = PartOf s 5 (blockBefore n (now s)) b

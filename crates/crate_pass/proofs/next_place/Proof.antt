@@ -1,6 +1,6 @@
 -- `crate_pass::next_place` meets its contract. Assumes nothing.
 use borrow.Author.Needs.{needs}
-use Rattle.crate_pass.specs.NextPlace.{nextPlace}
+use Rattle.crate_pass.specs.CodeShape.{nextPlace}
 use Rattle.crate_pass.proofs.next_place.Statement.{statement}
 use Rattle.crate_pass.proofs.next_place.Tie as tie
 

@@ -1,7 +1,7 @@
 -- `crate_pass::place_after` meets its contract. Assumes nothing.
 use borrow.Author.Needs.{needs}
 use borrow.Author.Tests.{lt-ltb, le-ltb}
-use Rattle.crate_pass.specs.NextPlace.{placeAfter}
+use Rattle.crate_pass.specs.CodeShape.{placeAfter}
 use Rattle.crate_pass.proofs.place_after.Statement.{statement}
 use Rattle.crate_pass.proofs.place_after.Tie as tie
 

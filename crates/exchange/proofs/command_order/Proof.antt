@@ -28,11 +28,11 @@ slice-aggregate-obey c = front-length (now (c .before .before .before .before .b
 obey-requires : tie.Need-obey-requires
 obey-requires c κs = search needs
 
-command-said-requires : tie.Need-command-said-requires
-command-said-requires c κs = search needs
+command-response-requires : tie.Need-command-response-requires
+command-response-requires c κs = search needs
 
 returns-2 : tie.Need-returns-2
-returns-2 c = let a = c .before .before .before .before .before .before .before .before .before .args in commanded (a .board) (now (a .bytes)) _ (c .command-said .result) (c .before .before .obey .result) (c .before .before .before .before .before .before .before .if1 .left) (words-front (now (a .bytes)) _ _ _ (c .before .before .before .before .before .words-from-bytes .ensures) (search needs)) (c .before .before .obey .ensures) (c .command-said .ensures)
+returns-2 c = let a = c .before .before .before .before .before .before .before .before .before .args in commanded (a .board) (now (a .bytes)) _ (c .command-response .result) (c .before .before .obey .result) (c .before .before .before .before .before .before .before .if1 .left) (words-front (now (a .bytes)) _ _ _ (c .before .before .before .before .before .words-from-bytes .ensures) (search needs)) (c .before .before .obey .ensures) (c .command-response .ensures)
 
 pub command-order-spec : {M : Type 1} → statement M
 command-order-spec =
@@ -45,5 +45,5 @@ command-order-spec =
     array-share-prefix-words
     slice-aggregate-obey
     obey-requires
-    command-said-requires
+    command-response-requires
     returns-2)

@@ -2,13 +2,13 @@
 use denote.Ref.{now}
 use borrow.Author.Tests.{ne-eqb}
 use Rattle.exchange.proofs.Writing.{words-front, front-length}
-use Rattle.exchange.proofs.Asking.{question-said, dynamic-asked}
+use Rattle.exchange.proofs.Asking.{question-response, dynamic-asked}
 use borrow.Author.Needs.{needs}
 use Rattle.exchange.proofs.dynamic_order.Statement.{statement}
 use Rattle.exchange.proofs.dynamic_order.Tie as tie
 
 returns : tie.Need-returns
-returns c bytes = question-said _ _ _ (ne-eqb _ _ (c .if1 .taken))
+returns c bytes = question-response _ _ _ (ne-eqb _ _ (c .if1 .taken))
 
 slice-aggregate-words-from-bytes : tie.Need-slice-aggregate-words-from-bytes
 slice-aggregate-words-from-bytes c = search needs
@@ -25,11 +25,11 @@ slice-aggregate-dynamic-block c = front-length (now (c .before .before .before .
 dynamic-block-requires : tie.Need-dynamic-block-requires
 dynamic-block-requires c κs = search needs
 
-words-said-requires : tie.Need-words-said-requires
-words-said-requires c κs = search needs
+words-response-requires : tie.Need-words-response-requires
+words-response-requires c κs = search needs
 
 returns-2 : tie.Need-returns-2
-returns-2 c = let a = c .before .before .before .before .before .before .before .before .before .args in dynamic-asked (a .board) (now (a .bytes)) (c .words-said .result) _ _ (c .before .dynamic-block .result) (c .before .before .before .before .before .before .before .if1 .left) (search needs) _ (words-front (now (a .bytes)) _ _ _ (c .before .before .before .before .before .words-from-bytes .ensures) (search needs)) (c .before .dynamic-block .ensures) (c .words-said .ensures)
+returns-2 c = let a = c .before .before .before .before .before .before .before .before .before .args in dynamic-asked (a .board) (now (a .bytes)) (c .words-response .result) _ _ (c .before .dynamic-block .result) (c .before .before .before .before .before .before .before .if1 .left) (search needs) _ (words-front (now (a .bytes)) _ _ _ (c .before .before .before .before .before .words-from-bytes .ensures) (search needs)) (c .before .dynamic-block .ensures) (c .words-response .ensures)
 
 pub dynamic-order-spec : {M : Type 1} → statement M
 dynamic-order-spec =
@@ -41,5 +41,5 @@ dynamic-order-spec =
     array-share-prefix-words
     slice-aggregate-dynamic-block
     dynamic-block-requires
-    words-said-requires
+    words-response-requires
     returns-2)

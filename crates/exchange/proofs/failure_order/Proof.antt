@@ -1,14 +1,14 @@
 -- `exchange::failure_order` meets its contract. Assumes nothing.
 use denote.Ref.{now}
 use borrow.Author.Tests.{ne-eqb}
-use Rattle.exchange.proofs.Asking.{question-said, failure-asked}
+use Rattle.exchange.proofs.Asking.{question-response, failure-asked}
 use borrow.Author.Needs.{needs}
 use native.Mathlib.Omega.{arith}
 use Rattle.exchange.proofs.failure_order.Statement.{statement}
 use Rattle.exchange.proofs.failure_order.Tie as tie
 
 returns : tie.Need-returns
-returns c bytes = question-said _ _ _ (ne-eqb _ _ (c .if1 .taken))
+returns c bytes = question-response _ _ _ (ne-eqb _ _ (c .if1 .taken))
 
 shared-slice-read-failure-message : tie.Need-shared-slice-read-failure-message
 shared-slice-read-failure-message c = search needs
@@ -19,11 +19,11 @@ cast-failure-message c = omega (arith, c .shared-slice-known2 .given 0)
 failure-message-requires : tie.Need-failure-message-requires
 failure-message-requires c κs = search needs
 
-words-said-requires : tie.Need-words-said-requires
-words-said-requires c κs = search needs
+words-response-requires : tie.Need-words-response-requires
+words-response-requires c κs = search needs
 
 returns-2 : tie.Need-returns-2
-returns-2 c = let a = c .before .before .before .before .before .before .args in failure-asked (a .board) (now (a .bytes)) (c .words-said .result) _ _ (c .before .failure-message .result) (c .before .before .before .before .if1 .left) (search needs) (c .before .failure-message .ensures) (c .words-said .ensures)
+returns-2 c = let a = c .before .before .before .before .before .before .args in failure-asked (a .board) (now (a .bytes)) (c .words-response .result) _ _ (c .before .failure-message .result) (c .before .before .before .before .if1 .left) (search needs) (c .before .failure-message .ensures) (c .words-response .ensures)
 
 pub failure-order-spec : {M : Type 1} → statement M
 failure-order-spec =
@@ -33,5 +33,5 @@ failure-order-spec =
     shared-slice-read-failure-message
     cast-failure-message
     failure-message-requires
-    words-said-requires
+    words-response-requires
     returns-2)

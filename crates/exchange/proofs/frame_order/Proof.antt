@@ -1,13 +1,13 @@
 -- `exchange::frame_order` meets its contract. Assumes nothing.
 use denote.Ref.{now}
 use borrow.Author.Tests.{ne-eqb}
-use Rattle.exchange.proofs.Asking.{question-said, frame-asked}
+use Rattle.exchange.proofs.Asking.{question-response, frame-asked}
 use borrow.Author.Needs.{needs}
 use Rattle.exchange.proofs.frame_order.Statement.{statement}
 use Rattle.exchange.proofs.frame_order.Tie as tie
 
 returns : tie.Need-returns
-returns c words = question-said _ _ _ (ne-eqb _ _ (c .if1 .taken))
+returns c words = question-response _ _ _ (ne-eqb _ _ (c .if1 .taken))
 
 shared-slice-read-outstanding-frame : tie.Need-shared-slice-read-outstanding-frame
 shared-slice-read-outstanding-frame c = search needs
@@ -15,11 +15,11 @@ shared-slice-read-outstanding-frame c = search needs
 outstanding-frame-requires : tie.Need-outstanding-frame-requires
 outstanding-frame-requires c κs = search needs
 
-bytes-said-requires : tie.Need-bytes-said-requires
-bytes-said-requires c κs = search needs
+bytes-response-requires : tie.Need-bytes-response-requires
+bytes-response-requires c κs = search needs
 
 returns-2 : tie.Need-returns-2
-returns-2 c = let a = c .before .before .before .before .before .before .args in frame-asked (a .board) (now (a .bytes)) (c .bytes-said .result) _ _ (c .before .outstanding-frame .result) (c .before .before .before .before .if1 .left) (search needs) (c .before .outstanding-frame .ensures) (c .bytes-said .ensures)
+returns-2 c = let a = c .before .before .before .before .before .before .args in frame-asked (a .board) (now (a .bytes)) (c .bytes-response .result) _ _ (c .before .outstanding-frame .result) (c .before .before .before .before .if1 .left) (search needs) (c .before .outstanding-frame .ensures) (c .bytes-response .ensures)
 
 pub frame-order-spec : {M : Type 1} → statement M
 frame-order-spec =
@@ -28,5 +28,5 @@ frame-order-spec =
     returns
     shared-slice-read-outstanding-frame
     outstanding-frame-requires
-    bytes-said-requires
+    bytes-response-requires
     returns-2)

@@ -1,15 +1,15 @@
 -- `exchange::frames_sent_order` meets its contract. Assumes nothing.
-use Rattle.texts.specs.declared.Said.the-variants.{Two}
+use Rattle.texts.specs.declared.Response.the-variants.{Two}
 use denote.Ref.{now}
 use mathlib.Core.Path.{refl}
 use borrow.Author.Tests.{ne-eqb}
-use Rattle.exchange.proofs.Asking.{question-said, sent-asked}
+use Rattle.exchange.proofs.Asking.{question-response, sent-asked}
 use borrow.Author.Needs.{needs}
 use Rattle.exchange.proofs.frames_sent_order.Statement.{statement}
 use Rattle.exchange.proofs.frames_sent_order.Tie as tie
 
 returns : tie.Need-returns
-returns c bytes words = question-said _ _ _ (ne-eqb _ _ (c .if1 .taken))
+returns c bytes words = question-response _ _ _ (ne-eqb _ _ (c .if1 .taken))
 
 shared-slice-read-frames-sent : tie.Need-shared-slice-read-frames-sent
 shared-slice-read-frames-sent c = search needs
@@ -26,14 +26,14 @@ cast-t11 c = search needs
 enum-known-r : tie.Need-enum-known-r
 enum-known-r c = search needs
 
-refusal-said-requires : tie.Need-refusal-said-requires
-refusal-said-requires c κs = search needs
+refusal-response-requires : tie.Need-refusal-response-requires
+refusal-response-requires c κs = search needs
 
 returns-2 : tie.Need-returns-2
 returns-2 c = let a = c .before .before .before .before .before .before .before .args in sent-asked (a .board) (now (a .bytes)) (Two 0 _) (c .before .before .before .before .before .if1 .left) (c .before .before .before .frames-sent .result) (c .before .before .before .frames-sent .ensures) (λ bytes words. rw (c .before .n .given .1) refl)
 
 returns-3 : tie.Need-returns-3
-returns-3 c = let a = c .before .before .before .before .before .before .before .before .args in sent-asked (a .board) (now (a .bytes)) (c .refusal-said .result) (c .before .before .before .before .before .before .if1 .left) (c .before .before .before .before .frames-sent .result) (c .before .before .before .before .frames-sent .ensures) (λ bytes words. rw (c .before .before .r .given .1) (c .refusal-said .ensures bytes words))
+returns-3 c = let a = c .before .before .before .before .before .before .before .before .args in sent-asked (a .board) (now (a .bytes)) (c .refusal-response .result) (c .before .before .before .before .before .before .if1 .left) (c .before .before .before .before .frames-sent .result) (c .before .before .before .before .frames-sent .ensures) (λ bytes words. rw (c .before .before .r .given .1) (c .refusal-response .ensures bytes words))
 
 pub frames-sent-order-spec : {M : Type 1} → statement M
 frames-sent-order-spec =
@@ -45,6 +45,6 @@ frames-sent-order-spec =
     enum-known-n
     cast-t11
     enum-known-r
-    refusal-said-requires
+    refusal-response-requires
     returns-2
     returns-3)

@@ -1,22 +1,22 @@
 -- `exchange::list_order` meets its contract. Assumes nothing.
 use denote.Ref.{now}
 use borrow.Author.Tests.{ne-eqb}
-use Rattle.exchange.proofs.Asking.{question-said, list-asked}
+use Rattle.exchange.proofs.Asking.{question-response, list-asked}
 use borrow.Author.Needs.{needs}
 use Rattle.exchange.proofs.list_order.Statement.{statement}
 use Rattle.exchange.proofs.list_order.Tie as tie
 
 returns : tie.Need-returns
-returns c bytes = question-said _ _ _ (ne-eqb _ _ (c .if1 .taken))
+returns c bytes = question-response _ _ _ (ne-eqb _ _ (c .if1 .taken))
 
 ftu-list-requires : tie.Need-ftu-list-requires
 ftu-list-requires c κs = search needs
 
-words-said-requires : tie.Need-words-said-requires
-words-said-requires c κs = search needs
+words-response-requires : tie.Need-words-response-requires
+words-response-requires c κs = search needs
 
 returns-2 : tie.Need-returns-2
-returns-2 c = let a = c .before .before .before .before .before .args in list-asked (a .board) (now (a .bytes)) (c .words-said .result) _ _ (c .before .ftu-list .result) (c .before .before .before .if1 .left) (search needs) (c .before .ftu-list .ensures) (c .words-said .ensures)
+returns-2 c = let a = c .before .before .before .before .before .args in list-asked (a .board) (now (a .bytes)) (c .words-response .result) _ _ (c .before .ftu-list .result) (c .before .before .before .if1 .left) (search needs) (c .before .ftu-list .ensures) (c .words-response .ensures)
 
 pub list-order-spec : {M : Type 1} → statement M
-list-order-spec = tie.close (tie.spec returns ftu-list-requires words-said-requires returns-2)
+list-order-spec = tie.close (tie.spec returns ftu-list-requires words-response-requires returns-2)

@@ -46,14 +46,14 @@ enum-told c = search needs
 enum-known-answer : tie.Need-enum-known-answer
 enum-known-answer c = search needs
 
-refusal-said-requires : tie.Need-refusal-said-requires
-refusal-said-requires c κs = search needs
+refusal-response-requires : tie.Need-refusal-response-requires
+refusal-response-requires c κs = search needs
 
 returns-2 : tie.Need-returns-2
 returns-2 c = let a = c .before .before .before .before .before .before .before .before .before .before .args in powered-up (a .board) (now (a .bytes)) _ (c .before .before .before .before .before .before .before .before .if1 .left) (words-whole (now (a .bytes)) _ _ _ (c .before .before .before .before .before .before .words-from-bytes .ensures) (search needs)) (c .before .before .before .before .number64 .result) (c .before .before .before .before .number64 .ensures) (c .before .before .before .power-up .result) (c .before .before .before .power-up .ensures) (c .enum-told .given .1)
 
 returns-3 : tie.Need-returns-3
-returns-3 c = let a = c .before .before .before .before .before .before .before .before .before .before .before .before .args in power-up-refused (a .board) (now (a .bytes)) _ (c .before .before .before .before .before .before .before .before .before .before .if1 .left) (words-whole (now (a .bytes)) _ _ _ (c .before .before .before .before .before .before .before .before .words-from-bytes .ensures) (search needs)) (c .before .before .before .before .before .before .number64 .result) (c .before .before .before .before .before .before .number64 .ensures) (c .before .before .before .before .before .power-up .result) (c .before .before .before .before .before .power-up .ensures) _ (c .refusal-said .result) (c .before .before .answer .given .1) (c .refusal-said .ensures)
+returns-3 c = let a = c .before .before .before .before .before .before .before .before .before .before .before .before .args in power-up-refused (a .board) (now (a .bytes)) _ (c .before .before .before .before .before .before .before .before .before .before .if1 .left) (words-whole (now (a .bytes)) _ _ _ (c .before .before .before .before .before .before .before .before .words-from-bytes .ensures) (search needs)) (c .before .before .before .before .before .before .number64 .result) (c .before .before .before .before .before .before .number64 .ensures) (c .before .before .before .before .before .power-up .result) (c .before .before .before .before .before .power-up .ensures) _ (c .refusal-response .result) (c .before .before .answer .given .1) (c .refusal-response .ensures)
 
 pub power-up-order-spec : {M : Type 1} → statement M
 power-up-order-spec =
@@ -72,6 +72,6 @@ power-up-order-spec =
     power-up-requires
     enum-told
     enum-known-answer
-    refusal-said-requires
+    refusal-response-requires
     returns-2
     returns-3)

@@ -5,13 +5,13 @@ use Rattle.exchange.proofs.question.Statement.{statement}
 use Rattle.exchange.proofs.question.Tie as tie
 use Rattle.exchange.proofs.question.Reads as reads
 use Rattle.exchange.proofs.question.Lts as lts
-use Rattle.texts.proofs.write_said.Reads as write-said-reads
+use Rattle.texts.proofs.write_response.Reads as write-response-reads
 
-write-said-requires : tie.Need-write-said-requires
-write-said-requires c κs = search needs
+write-response-requires : tie.Need-write-response-requires
+write-response-requires c κs = search needs
 
 returns : tie.Need-returns
-returns c = questioned _ _ _ _ (c .write-said .ensures .0) (c .write-said .ensures .1)
+returns c = questioned _ _ _ _ (c .write-response .ensures .0) (c .write-response .ensures .1)
 
 pub question-spec : {M : Type 1} → statement M
-question-spec = tie.close (tie.spec write-said-requires returns)
+question-spec = tie.close (tie.spec write-response-requires returns)

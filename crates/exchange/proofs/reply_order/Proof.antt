@@ -27,11 +27,11 @@ part-reply-end c = search needs
 reply-requires : tie.Need-reply-requires
 reply-requires c κs = search needs
 
-outcome-said-requires : tie.Need-outcome-said-requires
-outcome-said-requires c κs = search needs
+outcome-response-requires : tie.Need-outcome-response-requires
+outcome-response-requires c κs = search needs
 
 returns-2 : tie.Need-returns-2
-returns-2 c = let a = c .before .before .before .before .before .before .before .args in replied (a .board) (c .outcome-said .result) (c .before .before .reply .result) (c .outcome-said .ensures) (now (a .bytes)) _ (c .before .before .before .before .before .if1 .left) (part-rest (now (a .bytes)) 1) (c .before .before .reply .ensures)
+returns-2 c = let a = c .before .before .before .before .before .before .before .args in replied (a .board) (c .outcome-response .result) (c .before .before .reply .result) (c .outcome-response .ensures) (now (a .bytes)) _ (c .before .before .before .before .before .if1 .left) (part-rest (now (a .bytes)) 1) (c .before .before .reply .ensures)
 
 pub reply-order-spec : {M : Type 1} → statement M
 reply-order-spec =
@@ -44,5 +44,5 @@ reply-order-spec =
     part-reply-start
     part-reply-end
     reply-requires
-    outcome-said-requires
+    outcome-response-requires
     returns-2)

@@ -9,7 +9,7 @@ use Rattle.exchange.proofs.serve_read.Lts as lts
 use Rattle.exchange.proofs.lesser.Reads as lesser-reads
 use Rattle.exchange.proofs.question.Reads as question-reads
 use Rattle.exchange.proofs.serve_order.Reads as serve-order-reads
-use Rattle.texts.proofs.write_said.Reads as write-said-reads
+use Rattle.texts.proofs.write_response.Reads as write-response-reads
 
 question-requires : tie.Need-question-requires
 question-requires c κs = search needs
@@ -32,14 +32,14 @@ slice-aggregate-serve-order c = as-many _ _ _ (c .before .lesser .ensures)
 serve-order-requires : tie.Need-serve-order-requires
 serve-order-requires c κs = no-more _ _ _ (omega arith) (c .before .before .before .lesser .ensures)
 
-write-said-requires : tie.Need-write-said-requires
-write-said-requires c κs = search needs
+write-response-requires : tie.Need-write-response-requires
+write-response-requires c κs = search needs
 
 returns-3 : tie.Need-returns-3
 returns-3 c =
     as-line _ _ _ _ _ _
     (is-order (c .before .before .before .before .before .before .before .before .before .before .before .before .before .args .reading) _ _ (c .before .before .before .before .before .before .before .before .before .before .before .if1 .left) (c .before .before .before .before .before .before .before .before .before .before .if2 .left) (c .before .before .before .before .before .before .before .before .before .lesser .ensures))
-    (ordered _ _ _ _ _ _ _ _ _ (c .before .before .before .before .before .serve-order .ensures) (c .write-said .ensures .0) (c .write-said .ensures .1))
+    (ordered _ _ _ _ _ _ _ _ _ (c .before .before .before .before .before .serve-order .ensures) (c .write-response .ensures .0) (c .write-response .ensures .1))
 
 pub serve-read-spec : {M : Type 1} → statement M
 serve-read-spec =
@@ -52,5 +52,5 @@ serve-read-spec =
     lesser-requires
     slice-aggregate-serve-order
     serve-order-requires
-    write-said-requires
+    write-response-requires
     returns-3)

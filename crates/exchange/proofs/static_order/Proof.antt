@@ -1,23 +1,23 @@
 -- `exchange::static_order` meets its contract. Assumes nothing.
 use denote.Ref.{now}
 use borrow.Author.Tests.{ne-eqb}
-use Rattle.exchange.proofs.Asking.{question-said, static-asked}
+use Rattle.exchange.proofs.Asking.{question-response, static-asked}
 use borrow.Author.Needs.{needs}
 use Rattle.exchange.proofs.static_order.Statement.{statement}
 use Rattle.exchange.proofs.static_order.Tie as tie
 
 returns : tie.Need-returns
-returns c bytes = question-said _ _ _ (ne-eqb _ _ (c .if1 .taken))
+returns c bytes = question-response _ _ _ (ne-eqb _ _ (c .if1 .taken))
 
 static-block-requires : tie.Need-static-block-requires
 static-block-requires c κs = search needs
 
-words-said-requires : tie.Need-words-said-requires
-words-said-requires c κs = search needs
+words-response-requires : tie.Need-words-response-requires
+words-response-requires c κs = search needs
 
 returns-2 : tie.Need-returns-2
-returns-2 c = let a = c .before .before .before .before .before .args in static-asked (a .board) (now (a .bytes)) (c .words-said .result) _ _ (c .before .static-block .result) (c .before .before .before .if1 .left) (search needs) (search needs) (c .before .static-block .ensures) (c .words-said .ensures)
+returns-2 c = let a = c .before .before .before .before .before .args in static-asked (a .board) (now (a .bytes)) (c .words-response .result) _ _ (c .before .static-block .result) (c .before .before .before .if1 .left) (search needs) (search needs) (c .before .static-block .ensures) (c .words-response .ensures)
 
 pub static-order-spec : {M : Type 1} → statement M
 static-order-spec =
-    tie.close (tie.spec returns static-block-requires words-said-requires returns-2)
+    tie.close (tie.spec returns static-block-requires words-response-requires returns-2)

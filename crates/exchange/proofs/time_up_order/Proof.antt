@@ -18,13 +18,13 @@ shared-slice-read-time-up c = search needs
 time-up-requires : tie.Need-time-up-requires
 time-up-requires c κs = search needs
 
-outcome-said-requires : tie.Need-outcome-said-requires
-outcome-said-requires c κs = search needs
+outcome-response-requires : tie.Need-outcome-response-requires
+outcome-response-requires c κs = search needs
 
 returns-2 : tie.Need-returns-2
-returns-2 c = let a = c .before .before .before .before .before .before .args in timed-up (a .board) (c .outcome-said .result) (c .before .before .time-up .result) (c .outcome-said .ensures) (now (a .bytes)) (c .before .before .before .before .if1 .left) (c .before .before .time-up .ensures)
+returns-2 c = let a = c .before .before .before .before .before .before .args in timed-up (a .board) (c .outcome-response .result) (c .before .before .time-up .result) (c .outcome-response .ensures) (now (a .bytes)) (c .before .before .before .before .if1 .left) (c .before .before .time-up .ensures)
 
 pub time-up-order-spec : {M : Type 1} → statement M
 time-up-order-spec =
     tie.close
-    (tie.spec other-form-requires returns shared-slice-read-time-up time-up-requires outcome-said-requires returns-2)
+    (tie.spec other-form-requires returns shared-slice-read-time-up time-up-requires outcome-response-requires returns-2)

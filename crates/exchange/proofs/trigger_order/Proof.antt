@@ -15,11 +15,11 @@ fields-from-requires c κs = eight (now (c .before .before .before .args .bytes)
 trigger-requires : tie.Need-trigger-requires
 trigger-requires c κs = search needs
 
-bytes-said-requires : tie.Need-bytes-said-requires
-bytes-said-requires c κs = search needs
+bytes-response-requires : tie.Need-bytes-response-requires
+bytes-response-requires c κs = search needs
 
 returns : tie.Need-returns
-returns c = let a = c .before .before .before .before .before .before .before .before .args in triggered (a .board) (now (a .bytes)) _ _ (c .bytes-said .result) (c .before .before .before .before .before .before .are-fields .result) (c .before .before .before .before .fields-from .result) (c .before .before .trigger .result) (c .before .before .before .before .before .before .are-fields .ensures) (c .before .before .before .before .before .if1 .taken) (c .before .before .before .before .fields-from .ensures) (search needs) (c .before .before .trigger .ensures) (c .bytes-said .ensures)
+returns c = let a = c .before .before .before .before .before .before .before .before .args in triggered (a .board) (now (a .bytes)) _ _ (c .bytes-response .result) (c .before .before .before .before .before .before .are-fields .result) (c .before .before .before .before .fields-from .result) (c .before .before .trigger .result) (c .before .before .before .before .before .before .are-fields .ensures) (c .before .before .before .before .before .if1 .taken) (c .before .before .before .before .fields-from .ensures) (search needs) (c .before .before .trigger .ensures) (c .bytes-response .ensures)
 
 other-form-requires : tie.Need-other-form-requires
 other-form-requires c κs = search needs
@@ -34,7 +34,7 @@ trigger-order-spec =
     are-fields-requires
     fields-from-requires
     trigger-requires
-    bytes-said-requires
+    bytes-response-requires
     returns
     other-form-requires
     returns-2)

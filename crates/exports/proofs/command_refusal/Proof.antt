@@ -1,6 +1,6 @@
 -- `exports::command_refusal` meets its contract. Assumes nothing.
 use mathlib.Core.Path.{sym, ap, _∙_}
-use Rattle.acceptance.specs.Acceptance.{answerOnPaper}
+use Rattle.acceptance.specs.Acceptance.{answerMeaning}
 use Rattle.exports.specs.Exports.{answerNumber}
 use borrow.Author.Needs.{needs}
 use Rattle.exports.proofs.command_refusal.Statement.{statement}
@@ -16,10 +16,10 @@ number-requires : tie.Need-number-requires
 number-requires c κs = search needs
 
 returns : tie.Need-returns
-returns c = ap answerNumber (ap answerOnPaper (sym (c .enum-told .given .1)))
+returns c = ap answerNumber (ap answerMeaning (sym (c .enum-told .given .1)))
 
 returns-2 : tie.Need-returns-2
-returns-2 c = c .number .ensures ∙ ap answerNumber (ap answerOnPaper (sym (c .before .before .answer .given .1)))
+returns-2 c = c .number .ensures ∙ ap answerNumber (ap answerMeaning (sym (c .before .before .answer .given .1)))
 
 pub command-refusal-spec : {M : Type 1} → statement M
 command-refusal-spec =

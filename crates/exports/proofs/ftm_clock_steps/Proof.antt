@@ -5,7 +5,7 @@ use mathlib.Core.Path.{_≡_, refl, sym, ap₂, _∙_}
 use lib.ListN.{length, length-set}
 use Rattle.exports.specs.Exports.{lowerOf}
 use Rattle.exports.proofs.Refusing.{room-for, lower-none, gives-refused, gives}
-use Rattle.exports.proofs.Clock.{Made, none-made, one-more, all-made, steps-laid}
+use Rattle.exports.proofs.Clock.{Made, none-made, one-more, all-made, steps-output}
 use borrow.Author.Needs.{needs}
 use Rattle.exports.proofs.ftm_clock_steps.Statement.{statement}
 use Rattle.exports.proofs.ftm_clock_steps.Tie as tie
@@ -95,7 +95,7 @@ returns-2 c =
     let at-obeyed = at-room .before in
     let refusal = at-lower .lower-of .ensures ∙ ap₂ lowerOf (at-obeyed .obeyed .ensures .refusal) (at-room .no-room .ensures) in
     let made = all-made _ _ _ (loop .i) _ _ (loop .inv .3) (omega arith) (loop .inv .1) _ refl in
-    gives _ _ _ _ refusal (at-if .if1 .left) _ (steps-laid _ _ _ _ _ (at-obeyed .obeyed .ensures .board) made)
+    gives _ _ _ _ refusal (at-if .if1 .left) _ (steps-output _ _ _ _ _ (at-obeyed .obeyed .ensures .board) made)
 
 pub ftm-clock-steps-spec : {M : Type 1} → statement M
 ftm-clock-steps-spec =

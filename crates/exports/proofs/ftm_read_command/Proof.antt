@@ -1,6 +1,6 @@
 -- `exports::ftm_read_command` meets its contract. Assumes nothing.
 use mathlib.Core.Path.{sym, ap, _∙_}
-use Rattle.command_reader.specs.Reading.{readOnPaper}
+use Rattle.command_reader.specs.Reading.{readMeaning}
 use Rattle.exports.specs.Exports.{answerNumber, commandGiven}
 use borrow.Author.Needs.{needs}
 use Rattle.exports.proofs.ftm_read_command.Statement.{statement}
@@ -20,13 +20,13 @@ number-requires c κs = search needs
 
 returns : tie.Need-returns
 unfolding commandGiven
-returns c = ap answerNumber (ap readOnPaper (sym (c .enum-told .given .1)) ∙ c .before .before .read-command .ensures)
+returns c = ap answerNumber (ap readMeaning (sym (c .enum-told .given .1)) ∙ c .before .before .read-command .ensures)
 
 returns-2 : tie.Need-returns-2
 unfolding commandGiven
 returns-2 c =
     let at-r = c .before .before in
-    c .number .ensures ∙ ap answerNumber (ap readOnPaper (sym (at-r .r .given .1)) ∙ at-r .before .before .read-command .ensures)
+    c .number .ensures ∙ ap answerNumber (ap readMeaning (sym (at-r .r .given .1)) ∙ at-r .before .before .read-command .ensures)
 
 pub ftm-read-command-spec : {M : Type 1} → statement M
 ftm-read-command-spec =

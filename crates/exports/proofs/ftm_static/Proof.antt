@@ -1,7 +1,7 @@
 -- `exports::ftm_static` meets its contract. Assumes nothing.
 use denote.Ref.{now}
 use mathlib.Core.Path.{sym, ap, _∙_}
-use Rattle.refusals.specs.Writing.{writtenOnPaper}
+use Rattle.refusals.specs.Writing.{writtenMeaning}
 use Rattle.refusals.specs.declared.Written.{Written}
 use Rattle.exports.specs.Exports.{answerNumber}
 use Rattle.exports.proofs.Static.{front-length, front-fits, static-unread, static-round, static-6, wrote-lent}
@@ -74,7 +74,7 @@ returns-2 c =
     let block = now (at-if .before .before .before .args .block) in
     let lent = wrote-lent block _ _ (at-if .if1 .left) (copied .copy-words .ensures) _ _ (written .write-static .ensures) in
     static-round _ _ (written .write-static .result) _ lent _
-    (c .number .ensures ∙ ap (λ (w : Written). answerNumber (writtenOnPaper w)) (sym (at-r .r .given .1)))
+    (c .number .ensures ∙ ap (λ (w : Written). answerNumber (writtenMeaning w)) (sym (at-r .r .given .1)))
 
 same-length-2 : tie.Need-same-length-2
 same-length-2 c = search needs
@@ -87,7 +87,7 @@ returns-3 c =
     let at-if = copied .before .before in
     let block = now (at-if .before .before .before .args .block) in
     let lent = wrote-lent block _ _ (at-if .if1 .left) (copied .copy-words .ensures) _ _ (written .write-static .ensures) in
-    static-round _ _ (written .write-static .result) _ lent 0 (ap (λ (w : Written). answerNumber (writtenOnPaper w)) (sym (at-n .n .given .1)))
+    static-round _ _ (written .write-static .result) _ lent 0 (ap (λ (w : Written). answerNumber (writtenMeaning w)) (sym (at-n .n .given .1)))
 
 same-length-3 : tie.Need-same-length-3
 same-length-3 c = search needs

@@ -2,7 +2,7 @@
 use mathlib.Core.Path.{sym, ap₂, _∙_}
 use Rattle.exports.specs.Exports.{lowerOf, triggersRefusal}
 use Rattle.exports.proofs.Refusing.{room-for, room-one, room-packets, lower-none, gives-refused, gives, gives-count}
-use Rattle.exports.proofs.Triggers.{laid-on}
+use Rattle.exports.proofs.Triggers.{output-on}
 use borrow.Author.Needs.{needs}
 use Rattle.exports.proofs.ftm_triggers.Statement.{statement}
 use Rattle.exports.proofs.ftm_triggers.Tie as tie
@@ -77,10 +77,10 @@ returns-2 c =
     let at-obeyed = at-packets .before in
     let own = at-own .lower-of .ensures ∙ ap₂ lowerOf (at-obeyed .obeyed .ensures .refusal) (at-packets .no-room .ensures ∙ room-packets _ _) in
     let refusal = at-lower .lower-of2 .ensures ∙ ap₂ lowerOf own (at-number .no-room2 .ensures) in
-    let laid = laid-on _ (at-obeyed .obeyed .result) (at-obeyed .obeyed .ensures) _ _ _ _ (at-given .given-triggers .ensures) in
+    let outputAfter = output-on _ (at-obeyed .obeyed .result) (at-obeyed .obeyed .ensures) _ _ _ _ (at-given .given-triggers .ensures) in
     record {
-      bytes = gives _ _ _ _ refusal (at-if .if1 .left) _ (laid .packets);
-      many = gives-count _ _ _ _ refusal (at-if .if1 .left) _ (laid .number);
+      bytes = gives _ _ _ _ refusal (at-if .if1 .left) _ (outputAfter .packets);
+      many = gives-count _ _ _ _ refusal (at-if .if1 .left) _ (outputAfter .number);
     }
 
 pub ftm-triggers-spec : {M : Type 1} → statement M

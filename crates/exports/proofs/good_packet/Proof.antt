@@ -1,6 +1,6 @@
 -- `exports::good_packet` meets its contract. Assumes nothing.
 use mathlib.Core.Path.{sym, ap, _∙_}
-use Rattle.packets.specs.Packets.{readOnPaper}
+use Rattle.packets.specs.Packets.{readMeaning}
 use Rattle.exports.specs.Exports.{isGiven}
 use borrow.Author.Needs.{needs}
 use native.Mathlib.Omega.{arith}
@@ -17,10 +17,10 @@ enum-told-2 : tie.Need-enum-told-2
 enum-told-2 c = search needs
 
 returns : tie.Need-returns
-returns c = (ap isGiven (ap readOnPaper (sym (c .enum-told .given .1)) ∙ c .before .before .read-packet .ensures), omega arith)
+returns c = (ap isGiven (ap readMeaning (sym (c .enum-told .given .1)) ∙ c .before .before .read-packet .ensures), omega arith)
 
 returns-2 : tie.Need-returns-2
-returns-2 c = (ap isGiven (ap readOnPaper (sym (c .enum-told2 .given .1)) ∙ c .before .before .read-packet .ensures), omega arith)
+returns-2 c = (ap isGiven (ap readMeaning (sym (c .enum-told2 .given .1)) ∙ c .before .before .read-packet .ensures), omega arith)
 
 pub good-packet-spec : {M : Type 1} → statement M
 good-packet-spec =

@@ -7,7 +7,7 @@ use lib.ListN.{drop}
 use Rattle.exports.proofs.Replies.{reply-start, turn-none, turn-served, reply-end}
 use Rattle.board.specs.declared.Board.{Board}
 use Rattle.exports.specs.Exports.{goodOf}
-use Rattle.exports.specs.Parts.{holding}
+use Rattle.exports.specs.CodeShape.{withPass}
 use borrow.Author.Needs.{needs}
 use native.Mathlib.Omega.{arith}
 use Rattle.exports.proofs.good_replies.Statement.{statement}
@@ -16,7 +16,7 @@ use Rattle.exports.proofs.good_replies.Tie as tie
 abbrev Inv-loop : tie.InvT-loop
 Inv-loop block kind items crates₀ good₀ n i₀ crates good i =
     (i ≤ n) × (good ≤ i)
-    × ((β : Board) → good + goodOf (n - i) (holding β block kind crates) (drop (29 * i) items) ≡ goodOf n (holding β block kind crates₀) items)
+    × ((β : Board) → good + goodOf (n - i) (withPass β block kind crates) (drop (29 * i) items) ≡ goodOf n (withPass β block kind crates₀) items)
 
 abbrev μ-loop : tie.MeasureT-loop
 μ-loop block kind items crates₀ good₀ n i₀ crates good i = n - i
@@ -60,8 +60,8 @@ part-reply-start c = search needs
 part-reply-end : tie.Need-part-reply-end Inv-loop μ-loop
 part-reply-end c = search needs
 
-hear-step-requires : tie.Need-hear-step-requires Inv-loop μ-loop
-hear-step-requires c κs = search needs
+judge-reply-requires : tie.Need-judge-reply-requires Inv-loop μ-loop
+judge-reply-requires c κs = search needs
 
 active-word-requires : tie.Need-active-word-requires Inv-loop μ-loop
 active-word-requires c κs = search needs
@@ -130,7 +130,7 @@ good-replies-spec =
     sub-reply
     part-reply-start
     part-reply-end
-    hear-step-requires
+    judge-reply-requires
     active-word-requires
     serve-requires
     mul-crates

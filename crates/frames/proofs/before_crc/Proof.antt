@@ -1,7 +1,7 @@
 -- `frames::before_crc` meets its contract: the bytes stored are those of five words. Assumes nothing.
 use mathlib.Core.Path.{_≡_, ap}
 use lib.ListN.{length}
-use Rattle.frames.specs.Frames.{beforeCrc}
+use Rattle.frames.specs.CodeShape.{beforeCrc}
 use Rattle.numbers.proofs.Listed.{listed}
 use borrow.Author.Needs.{needs}
 use Rattle.frames.proofs.before_crc.Statement.{statement}

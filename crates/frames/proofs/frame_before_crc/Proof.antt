@@ -1,9 +1,9 @@
 -- `frames::frame_before_crc` meets its contract: five words of data make the frame that the code's own words make. Assumes nothing.
-use mathlib.Core.Path.{_≡_}
+use mathlib.Core.Path.{_≡_, _∙_}
 use lib.ListN.{length}
 use Rattle.configuration.specs.Configuration.{addressOf}
 use Rattle.frames.specs.Frames.{codeOf}
-use Rattle.frames.proofs.Frames.{before-five}
+use Rattle.frames.proofs.Frames.{before-five, before-is}
 use borrow.Author.Needs.{needs}
 use Rattle.frames.proofs.frame_before_crc.Statement.{statement}
 use Rattle.frames.proofs.frame_before_crc.Tie as tie
@@ -26,7 +26,7 @@ returns c =
     let hd : length (a .s .dacs) ≡ 5 = search needs in
     let he : length (a .s .enables) ≡ 4 = search needs in
     rw (c .before-crc .ensures, c .before .before .before .address-of .ensures, c .before .before .number .ensures, c .before .words-for .ensures)
-    (before-five (addressOf (a .c) (a .b)) (codeOf (a .code)) (a .s) hd he (a .code))
+    (before-five (addressOf (a .c) (a .b)) (codeOf (a .code)) (a .s) hd he (a .code) ∙ before-is (addressOf (a .c) (a .b)) (codeOf (a .code)) _)
 
 pub frame-before-crc-spec : {M : Type 1} → statement M
 frame-before-crc-spec =

@@ -1,7 +1,7 @@
 -- `frames::words_for` meets its contract: the settings' arrays are written out by their words. Assumes nothing.
 use mathlib.Core.Path.{_≡_, ap}
 use lib.ListN.{length}
-use Rattle.frames.specs.Frames.{fiveOf}
+use Rattle.frames.specs.CodeShape.{fiveOf}
 use Rattle.numbers.proofs.Listed.{listed}
 use borrow.Author.Needs.{needs}
 use Rattle.frames.proofs.words_for.Statement.{statement}

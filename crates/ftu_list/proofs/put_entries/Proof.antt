@@ -1,7 +1,7 @@
 -- `ftu_list::put_entries` meets its contract. Assumes nothing.
 use lib.Seq.{length-take-le, take-all}
 use Rattle.ftu_list.specs.declared.Entry.{Entry}
-use Rattle.words.proofs.Laws.{copied-part, part-laid, part-length}
+use Rattle.words.proofs.Laws.{copied-part, part-output, part-length}
 use Prim.Native.Nat.{ℕ, _+_, _-_, _*_, _≤_}
 use mathlib.Core.Path.{_≡_, sym, ap, ap₂, _∙_}
 use mathlib.Core.List.{List, _++_}
@@ -78,7 +78,7 @@ loop-again c =
     (ap (λ (m : ℕ). entryWordsFrom 0 (take m (a .t1))) (add-one (l .k)) ∙ entries-more (a .t1) (l .k) (omega arith))
     (let q : 6 * (l .k + 1) ≡ 6 * l .k + 6 = omega arith in q) in (
       search needs,
-      part-laid (now (a .body)) front w (l .body) (c .before .before .copy-words .last .1 .0) (6 * l .k) 6 hn (length-entry (l .k) _) (l .inv .1) ey ∙ sym more,
+      part-output (now (a .body)) front w (l .body) (c .before .before .copy-words .last .1 .0) (6 * l .k) 6 hn (length-entry (l .k) _) (l .inv .1) ey ∙ sym more,
       part-length (now (a .body)) front w (l .body) (c .before .before .copy-words .last .1 .0) (6 * l .k) 6 hn (length-entry (l .k) _) (l .inv .1) ey (omega arith),
     )
 

@@ -5,7 +5,7 @@ use mathlib.Core.List.{List}
 use lib.ListN.{length}
 use denote.Ref.{now}
 use Rattle.words.specs.Words.{copied}
-use Rattle.words.proofs.Laws.{both-laid}
+use Rattle.words.proofs.Laws.{both-output}
 use Rattle.ftu_list.specs.List.{listHead, entryWordsFrom}
 use Rattle.ftu_list.proofs.Laws.{length-head, length-entries, length-mapped}
 use borrow.Author.Needs.{needs}
@@ -44,7 +44,7 @@ returns c =
     let n : length es ≡ 40 = search length-mapped depth 8 in
     let p = c .before .before .before .before .before .before .copy-words in
     let q = c .before .before .put-entries in
-    both-laid (now (a .body)) (listHead (a .list)) (entryWordsFrom 0 es) (p .last .1 .0) (q .last .1 .0) 9 240 (length-head (a .list))
+    both-output (now (a .body)) (listHead (a .list)) (entryWordsFrom 0 es) (p .last .1 .0) (q .last .1 .0) 9 240 (length-head (a .list))
     (length-entries 0 es ∙ ap (λ (m : ℕ). 6 * m) n) (omega arith)
     (p .ensures ∙ ap (λ (l : List ℕ). copied l (now (a .body))) (c .before .before .before .before .before .before .before .before .before .before .list-head .ensures))
     (q .ensures)

@@ -15,10 +15,10 @@ use Rattle.replay.proofs.serve_part.Reads as serve-part-reads
 use Rattle.script.proofs.line_begun.Reads as line-begun-reads
 
 abbrev Inv-loop : tie.InvT-loop
-Inv-loop standing₀ bytes₀ input₀ left₀ standing bytes input left = 4096 ≡ length input
+Inv-loop standing₀ bytes₀ input₀ left₀ state bytes input left = 4096 ≡ length input
 
 abbrev μ-loop : tie.MeasureT-loop
-μ-loop standing₀ bytes₀ input₀ left₀ standing bytes input left = left
+μ-loop standing₀ bytes₀ input₀ left₀ state bytes input left = left
 
 power-up-requires : tie.Need-power-up-requires Inv-loop μ-loop
 power-up-requires c κs = search needs

@@ -2,7 +2,7 @@
 use mathlib.Core.Path.{ap, _∙_}
 use mathlib.Core.Logic.{⊎-elim}
 use Rattle.script.proofs.Characters.{order-space, order-no-digit, order-full, order-digit, order-high, order-low}
-use Rattle.script.specs.Script.{withDigit, withByte}
+use Rattle.script.specs.ByCharacter.{withDigit, withByte}
 use denote.Ref.{now}
 use borrow.Author.Needs.{needs}
 use native.Mathlib.Omega.{arith}

@@ -3,18 +3,19 @@ use Prim.Native.Nat.{ℕ, _≤_}
 use mathlib.Core.Path.{_≡_, ap}
 use mathlib.Core.List.{List}
 use denote.Ref.{now}
-use Rattle.texts.specs.Texts.{Appended, spaced, fieldsOf, saidOnPaper}
-use Rattle.texts.specs.declared.Said.{Said}
+use Rattle.texts.specs.Texts.{spaced, fieldsOf, responseMeaning}
+use Rattle.texts.specs.CodeShape.{Appended}
+use Rattle.texts.specs.declared.Response.{Response}
 use Rattle.texts.proofs.Laws.{within}
 use borrow.Author.Needs.{needs}
 use native.Mathlib.Omega.{arith}
 use Rattle.texts.proofs.append_fields.Statement.{statement}
 use Rattle.texts.proofs.append_fields.Tie as tie
 
--- what was appended is what is said
-shown : {d e : List ℕ} {s t : Said} {m next : ℕ} (bytes words : List ℕ) → s ≡ t → m ≤ 1994
-    → Appended d 0 (spaced (fieldsOf (saidOnPaper t bytes words))) m next e → Appended d 0 (spaced (fieldsOf (saidOnPaper s bytes words))) 1994 next e
-shown bytes words h k p = within (ap (λ (s : Said). spaced (fieldsOf (saidOnPaper s bytes words))) h) k p
+-- what was appended is what is printed
+shown : {d e : List ℕ} {s t : Response} {m next : ℕ} (bytes words : List ℕ) → s ≡ t → m ≤ 1994
+    → Appended d 0 (spaced (fieldsOf (responseMeaning t bytes words))) m next e → Appended d 0 (spaced (fieldsOf (responseMeaning s bytes words))) 1994 next e
+shown bytes words h k p = within (ap (λ (s : Response). spaced (fieldsOf (responseMeaning s bytes words))) h) k p
 
 enum-told : tie.Need-enum-told
 enum-told c = search needs
@@ -25,44 +26,44 @@ slice-aggregate-append c = search needs
 append-requires : tie.Need-append-requires
 append-requires c κs = search needs
 
-enum-known-said : tie.Need-enum-known-said
-enum-known-said c = search needs
+enum-known-response : tie.Need-enum-known-response
+enum-known-response c = search needs
 
 append-decimal-requires : tie.Need-append-decimal-requires
 append-decimal-requires c κs = search needs
 
-enum-known-said-2 : tie.Need-enum-known-said-2
-enum-known-said-2 c = search needs
+enum-known-response-2 : tie.Need-enum-known-response-2
+enum-known-response-2 c = search needs
 
 append-two-requires : tie.Need-append-two-requires
 append-two-requires c κs = search needs
 
-enum-known-said-3 : tie.Need-enum-known-said-3
-enum-known-said-3 c = search needs
+enum-known-response-3 : tie.Need-enum-known-response-3
+enum-known-response-3 c = search needs
 
 append-three-requires : tie.Need-append-three-requires
 append-three-requires c κs = search needs
 
-enum-known-said-4 : tie.Need-enum-known-said-4
-enum-known-said-4 c = search needs
+enum-known-response-4 : tie.Need-enum-known-response-4
+enum-known-response-4 c = search needs
 
 append-obeyed-requires : tie.Need-append-obeyed-requires
 append-obeyed-requires c κs = search needs
 
-enum-known-said-5 : tie.Need-enum-known-said-5
-enum-known-said-5 c = search needs
+enum-known-response-5 : tie.Need-enum-known-response-5
+enum-known-response-5 c = search needs
 
 append-served-requires : tie.Need-append-served-requires
 append-served-requires c κs = search needs
 
-enum-known-said-6 : tie.Need-enum-known-said-6
-enum-known-said-6 c = search needs
+enum-known-response-6 : tie.Need-enum-known-response-6
+enum-known-response-6 c = search needs
 
 append-bytes-requires : tie.Need-append-bytes-requires
 append-bytes-requires c κs = search needs
 
-enum-known-said-7 : tie.Need-enum-known-said-7
-enum-known-said-7 c = search needs
+enum-known-response-7 : tie.Need-enum-known-response-7
+enum-known-response-7 c = search needs
 
 append-words-requires : tie.Need-append-words-requires
 append-words-requires c κs = search needs
@@ -71,25 +72,25 @@ returns : tie.Need-returns
 returns c = shown (now (c .before .before .before .before .before .args .bytes)) (now (c .before .before .before .before .before .args .words)) (c .before .before .before .enum-told .given .1) (omega arith) (c .append .ensures)
 
 returns-2 : tie.Need-returns-2
-returns-2 c = shown (now (c .before .before .before .before .before .args .bytes)) (now (c .before .before .before .before .before .args .words)) (c .before .before .before .said .given .1) (omega arith) (c .append-decimal .ensures)
+returns-2 c = shown (now (c .before .before .before .before .before .args .bytes)) (now (c .before .before .before .before .before .args .words)) (c .before .before .before .response .given .1) (omega arith) (c .append-decimal .ensures)
 
 returns-3 : tie.Need-returns-3
-returns-3 c = shown (now (c .before .before .before .before .before .args .bytes)) (now (c .before .before .before .before .before .args .words)) (c .before .before .before .said2 .given .1) (omega arith) (c .append-two .ensures)
+returns-3 c = shown (now (c .before .before .before .before .before .args .bytes)) (now (c .before .before .before .before .before .args .words)) (c .before .before .before .response2 .given .1) (omega arith) (c .append-two .ensures)
 
 returns-4 : tie.Need-returns-4
-returns-4 c = shown (now (c .before .before .before .before .before .args .bytes)) (now (c .before .before .before .before .before .args .words)) (c .before .before .before .said3 .given .1) (omega arith) (c .append-three .ensures)
+returns-4 c = shown (now (c .before .before .before .before .before .args .bytes)) (now (c .before .before .before .before .before .args .words)) (c .before .before .before .response3 .given .1) (omega arith) (c .append-three .ensures)
 
 returns-5 : tie.Need-returns-5
-returns-5 c = shown (now (c .before .before .before .before .before .args .bytes)) (now (c .before .before .before .before .before .args .words)) (c .before .before .before .said4 .given .1) (omega arith) (c .append-obeyed .ensures)
+returns-5 c = shown (now (c .before .before .before .before .before .args .bytes)) (now (c .before .before .before .before .before .args .words)) (c .before .before .before .response4 .given .1) (omega arith) (c .append-obeyed .ensures)
 
 returns-6 : tie.Need-returns-6
-returns-6 c = shown (now (c .before .before .before .before .before .args .bytes)) (now (c .before .before .before .before .before .args .words)) (c .before .before .before .said5 .given .1) (omega arith) (c .append-served .ensures)
+returns-6 c = shown (now (c .before .before .before .before .before .args .bytes)) (now (c .before .before .before .before .before .args .words)) (c .before .before .before .response5 .given .1) (omega arith) (c .append-served .ensures)
 
 returns-7 : tie.Need-returns-7
-returns-7 c = shown (now (c .before .before .before .before .before .before .args .bytes)) (now (c .before .before .before .before .before .before .args .words)) (c .before .before .before .before .said6 .given .1) (omega arith) (c .append-bytes .ensures)
+returns-7 c = shown (now (c .before .before .before .before .before .before .args .bytes)) (now (c .before .before .before .before .before .before .args .words)) (c .before .before .before .before .response6 .given .1) (omega arith) (c .append-bytes .ensures)
 
 returns-8 : tie.Need-returns-8
-returns-8 c = shown (now (c .before .before .before .before .before .before .args .bytes)) (now (c .before .before .before .before .before .before .args .words)) (c .before .before .before .before .said7 .given .1) (omega arith) (c .append-words .ensures)
+returns-8 c = shown (now (c .before .before .before .before .before .before .args .bytes)) (now (c .before .before .before .before .before .before .args .words)) (c .before .before .before .before .response7 .given .1) (omega arith) (c .append-words .ensures)
 
 pub append-fields-spec : {M : Type 1} → statement M
 append-fields-spec =
@@ -98,19 +99,19 @@ append-fields-spec =
     enum-told
     slice-aggregate-append
     append-requires
-    enum-known-said
+    enum-known-response
     append-decimal-requires
-    enum-known-said-2
+    enum-known-response-2
     append-two-requires
-    enum-known-said-3
+    enum-known-response-3
     append-three-requires
-    enum-known-said-4
+    enum-known-response-4
     append-obeyed-requires
-    enum-known-said-5
+    enum-known-response-5
     append-served-requires
-    enum-known-said-6
+    enum-known-response-6
     append-bytes-requires
-    enum-known-said-7
+    enum-known-response-7
     append-words-requires
     returns
     returns-2

@@ -16,14 +16,14 @@ append-decimal-requires c κs = search needs
 element-write-text : tie.Need-element-write-text
 element-write-text c = search needs
 
-add-append-deed : tie.Need-add-append-deed
-add-append-deed c = search needs
+add-append-command : tie.Need-add-append-command
+add-append-command c = search needs
 
-append-deed-requires : tie.Need-append-deed-requires
-append-deed-requires c κs = search needs
+append-command-requires : tie.Need-append-command-requires
+append-command-requires c κs = search needs
 
 returns : tie.Need-returns
-returns c = both (c .before .before .before .before .append .ensures) (both (both (c .before .before .append-decimal .ensures) (one _ _ _)) (c .append-deed .ensures))
+returns c = both (c .before .before .before .before .append .ensures) (both (both (c .before .before .append-decimal .ensures) (one _ _ _)) (c .append-command .ensures))
 
 pub append-obeyed-spec : {M : Type 1} → statement M
 append-obeyed-spec =
@@ -33,6 +33,6 @@ append-obeyed-spec =
     append-requires
     append-decimal-requires
     element-write-text
-    add-append-deed
-    append-deed-requires
+    add-append-command
+    append-command-requires
     returns)

@@ -2,7 +2,8 @@
 use Prim.Native.Nat.{_≤_, _-_, _*_}
 use lib.ListN.{take}
 use denote.Ref.{now}
-use Rattle.texts.specs.Texts.{Appended, hexWord, joined}
+use Rattle.texts.specs.Texts.{hexWord, joined}
+use Rattle.texts.specs.CodeShape.{Appended}
 use Rattle.texts.proofs.Laws.{both, nothing, joined-more, joined-all}
 use borrow.Author.Needs.{needs}
 use native.Mathlib.Omega.{arith}

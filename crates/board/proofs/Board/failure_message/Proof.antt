@@ -1,7 +1,7 @@
 -- `board::Board::failure_message` meets its contract. Assumes nothing.
 use mathlib.Core.Path.{sym, ap, _∙_}
 use Rattle.refusals.specs.declared.Refusal.the-variants.{NotAcceptedNow}
-use Rattle.four_crates.specs.FourCrates.{recordOnPaper}
+use Rattle.four_crates.specs.FourCrates.{recordMeaning}
 use Rattle.blocks.proofs.Laws.{block-own}
 use Rattle.board.proofs.Sending.{failure-9, failure-refused, failure-found}
 use borrow.Author.Needs.{needs}
@@ -51,7 +51,7 @@ returns-2 c =
     let at-pass = at-record .before .before in
     let a = at-pass .before .before .before .before .args in
     failure-found (a .self) (a .ordinal) (sym (at-pass .in-pass .ensures) ∙ at-record .before .if1 .left) _
-    (sym (ap recordOnPaper (at-f .f .given .1)) ∙ at-record .record-at .ensures) _ (at-header .header .ensures) _ _ _ _
+    (sym (ap recordMeaning (at-f .f .given .1)) ∙ at-record .record-at .ensures) _ (at-header .header .ensures) _ _ _ _
     (at-frame .step-frame .ensures) (at-write .write-failure .ensures)
 
 returns-3 : tie.Need-returns-3
@@ -61,7 +61,7 @@ returns-3 c =
     let at-pass = at-record .before .before in
     let a = at-pass .before .before .before .before .args in
     failure-refused (a .self) (a .ordinal) (sym (at-pass .in-pass .ensures) ∙ at-record .before .if1 .left) _
-    (sym (ap recordOnPaper (at-r .r .given .1)) ∙ at-record .record-at .ensures) _
+    (sym (ap recordMeaning (at-r .r .given .1)) ∙ at-record .record-at .ensures) _
 
 pub failure-message-spec : {M : Type 1} → statement M
 failure-message-spec =

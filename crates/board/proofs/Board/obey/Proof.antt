@@ -5,8 +5,8 @@ use borrow.Author.Needs.{needs}
 use Rattle.board.proofs.Board.obey.Statement.{statement}
 use Rattle.board.proofs.Board.obey.Tie as tie
 
-situation-requires : tie.Need-situation-requires
-situation-requires c κs = search needs
+status-requires : tie.Need-status-requires
+status-requires c κs = search needs
 
 decide-requires : tie.Need-decide-requires
 decide-requires c κs = search needs
@@ -18,7 +18,7 @@ carry-out-requires : tie.Need-carry-out-requires
 carry-out-requires c κs =
     let at-decide = c .before in
     let a = at-decide .before .before .before .args in
-    let answer = rw (at-decide .before .situation .ensures) at (at-decide .decide .ensures .answer) in
+    let answer = rw (at-decide .before .status .ensures) at (at-decide .decide .ensures .answer) in
     block-whole (a .self) (now (a .words)) (at-decide .decide .result .answer) answer
     _ (at-decide .decide .ensures .used) _ (c .block-before .ensures .contents)
 
@@ -26,7 +26,7 @@ returns : tie.Need-returns
 returns c =
     let at-decide = c .before .before in
     let a = at-decide .before .before .before .args in
-    let answer = rw (at-decide .before .situation .ensures) at (at-decide .decide .ensures .answer) in
+    let answer = rw (at-decide .before .status .ensures) at (at-decide .decide .ensures .answer) in
     record {
       answer = answer;
       used = at-decide .decide .ensures .used;
@@ -36,4 +36,4 @@ returns c =
     }
 
 pub obey-spec : {M : Type 1} → statement M
-obey-spec = tie.close (tie.spec situation-requires decide-requires block-before-requires carry-out-requires returns)
+obey-spec = tie.close (tie.spec status-requires decide-requires block-before-requires carry-out-requires returns)

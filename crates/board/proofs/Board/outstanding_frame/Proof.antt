@@ -1,6 +1,6 @@
 -- `board::Board::outstanding_frame` meets its contract. Assumes nothing.
 use Rattle.board.proofs.Serving.{fetched, fetch-refused}
-use Rattle.four_crates.specs.FourCrates.{outstandingOnPaper}
+use Rattle.four_crates.specs.FourCrates.{outstandingMeaning}
 use mathlib.Core.Path.{sym, ap, _∙_}
 use borrow.Author.Needs.{needs}
 use Rattle.board.proofs.Board.outstanding_frame.Statement.{statement}
@@ -28,10 +28,10 @@ same-length : tie.Need-same-length
 same-length c = search needs
 
 returns : tie.Need-returns
-returns c = fetched (c .before .before .before .before .before .before .before .before .before .before .before .before .before .args .self) (c .before .before .before .before .before .before .before .before .before .before .before .before .before .args .index) _ _ (sym (ap outstandingOnPaper (c .before .before .before .before .before .before .before .board .given .1)) ∙ c .before .before .before .before .before .before .before .before .before .outstanding-on .ensures) _ _ _ _ (c .before .before .before .before .step-frame .ensures) (c .before .before .write-frame .ensures)
+returns c = fetched (c .before .before .before .before .before .before .before .before .before .before .before .before .before .args .self) (c .before .before .before .before .before .before .before .before .before .before .before .before .before .args .index) _ _ (sym (ap outstandingMeaning (c .before .before .before .before .before .before .before .board .given .1)) ∙ c .before .before .before .before .before .before .before .before .before .outstanding-on .ensures) _ _ _ _ (c .before .before .before .before .step-frame .ensures) (c .before .before .write-frame .ensures)
 
 returns-2 : tie.Need-returns-2
-returns-2 c = fetch-refused (c .before .before .before .before .before .before .before .args .self) (c .before .before .before .before .before .before .before .args .index) _ (sym (ap outstandingOnPaper (c .before .r .given .1)) ∙ c .before .before .before .outstanding-on .ensures) _
+returns-2 c = fetch-refused (c .before .before .before .before .before .before .before .args .self) (c .before .before .before .before .before .before .before .args .index) _ (sym (ap outstandingMeaning (c .before .r .given .1)) ∙ c .before .before .before .outstanding-on .ensures) _
 
 pub outstanding-frame-spec : {M : Type 1} → statement M
 outstanding-frame-spec =

@@ -5,13 +5,13 @@ use mathlib.Core.Logic.{⊎-elim}
 use native.Mathlib.Omega.{arith}
 use lib.ListN.{set}
 use denote.Ref.{now}
-use Rattle.steps.specs.Steps.{heardIn}
+use Rattle.steps.specs.Steps.{judgedReply}
 use Rattle.board.specs.State.{crateAt, withCrates}
 use Rattle.board.specs.SlowControl.{frameAt, Replies}
-use Rattle.board.proofs.Serving.{heard-at, replies-11, replies-crate}
+use Rattle.board.proofs.Serving.{judged-at, replies-11, replies-crate}
 use borrow.Author.Needs.{needs}
 use Rattle.board.proofs.flags_of.Reads as flags
-use Rattle.steps.proofs.hear_step.Reads as hears
+use Rattle.steps.proofs.judge_reply.Reads as hears
 use Rattle.crate_pass.proofs.Crate.serve.Reads as serves
 use Rattle.board.proofs.Board.reply.Reads as reads
 use Rattle.board.proofs.Board.reply.Lts as lts
@@ -33,11 +33,11 @@ element-copy-out-third c = search needs
 element-copy-out-fourth : tie.Need-element-copy-out-fourth
 element-copy-out-fourth c = search needs
 
-slice-aggregate-hear-step : tie.Need-slice-aggregate-hear-step
-slice-aggregate-hear-step c = search needs
+slice-aggregate-judge-reply : tie.Need-slice-aggregate-judge-reply
+slice-aggregate-judge-reply c = search needs
 
-hear-step-requires : tie.Need-hear-step-requires
-hear-step-requires c κs = search needs
+judge-reply-requires : tie.Need-judge-reply-requires
+judge-reply-requires c κs = search needs
 
 serve-requires : tie.Need-serve-requires
 serve-requires c κs = search needs
@@ -84,12 +84,12 @@ own-is c l =
 -- it is served, and stored at its place j
 stored : (c : Served) (j : ℕ) → called (readOut c) .args .index ≡ j → j ≤ 3
     → let a = called (readOut c) .args in
-    Replies (a .t1) (a .index) (heardIn (frameAt (a .t1) (a .index)) (now (a .bytes)))
+    Replies (a .t1) (a .index) (judgedReply (frameAt (a .t1) (a .index)) (now (a .bytes)))
     (record { board = withCrates (a .t1) (set (a .t1 .crates) j (c .before .serve .result .state)); answer = c .before .serve .result .answer })
 stored c j e l =
     let a = called (readOut c) .args in
     let own = own-is (readOut c) (omega arith) in
-    let said = heard-at (a .t1) (a .index) _ _ _ (c .before .before .hear-step .ensures) own in
+    let said = judged-at (a .t1) (a .index) _ _ _ (c .before .before .judge-reply .ensures) own in
     replies-crate (a .t1) (a .index) _ _ _ _ (rw said at (c .before .serve .ensures))
     j e l own (readOut c .before .before .before .before .before .flags-of .ensures)
 
@@ -123,8 +123,8 @@ reply-spec =
     element-copy-out-second
     element-copy-out-third
     element-copy-out-fourth
-    slice-aggregate-hear-step
-    hear-step-requires
+    slice-aggregate-judge-reply
+    judge-reply-requires
     serve-requires
     element-set-from-after
     element-set-from-after-2

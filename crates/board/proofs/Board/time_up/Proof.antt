@@ -4,13 +4,13 @@ use mathlib.Core.Path.{_≡_, _∙_, ap}
 use mathlib.Core.Logic.{⊎-elim}
 use native.Mathlib.Omega.{arith}
 use lib.ListN.{set}
-use Rattle.steps.specs.Steps.{silence}
+use Rattle.steps.specs.Steps.{noReply}
 use Rattle.board.specs.State.{crateAt, withCrates}
 use Rattle.board.specs.SlowControl.{Replies}
 use Rattle.board.proofs.Serving.{replies-11, replies-crate}
 use borrow.Author.Needs.{needs}
 use Rattle.board.proofs.flags_of.Reads as flags
-use Rattle.steps.proofs.nothing_heard.Reads as nothing
+use Rattle.steps.proofs.no_reply.Reads as nothing
 use Rattle.crate_pass.proofs.Crate.serve.Reads as serves
 use Rattle.board.proofs.Board.time_up.Reads as reads
 use Rattle.board.proofs.Board.time_up.Lts as lts
@@ -32,8 +32,8 @@ element-copy-out-own-3 c = search needs
 element-copy-out-own-4 : tie.Need-element-copy-out-own-4
 element-copy-out-own-4 c = search needs
 
-nothing-heard-requires : tie.Need-nothing-heard-requires
-nothing-heard-requires c κs = search needs
+no-reply-requires : tie.Need-no-reply-requires
+no-reply-requires c κs = search needs
 
 serve-requires : tie.Need-serve-requires
 serve-requires c κs = search needs
@@ -80,12 +80,12 @@ own-is c l =
 -- it is served, and stored at its place j
 stored : (c : Served) (j : ℕ) → called (readOut c) .args .index ≡ j → j ≤ 3
     → let a = called (readOut c) .args in
-    Replies (a .t1) (a .index) silence
+    Replies (a .t1) (a .index) noReply
     (record { board = withCrates (a .t1) (set (a .t1 .crates) j (c .before .serve .result .state)); answer = c .before .serve .result .answer })
 stored c j e l =
     let a = called (readOut c) .args in
     let own = own-is (readOut c) (omega arith) in
-    let said = c .before .before .nothing-heard .ensures in
+    let said = c .before .before .no-reply .ensures in
     replies-crate (a .t1) (a .index) _ _ _ _ (rw said at (c .before .serve .ensures))
     j e l own (readOut c .before .flags-of .ensures)
 
@@ -119,7 +119,7 @@ time-up-spec =
     element-copy-out-own-2
     element-copy-out-own-3
     element-copy-out-own-4
-    nothing-heard-requires
+    no-reply-requires
     serve-requires
     element-set-from-state
     element-set-from-state-2

@@ -38,7 +38,7 @@ returns-2 c =
     let moved = counted .before .before in
     let begun = moved .before in
     let a = begun .before .args in
-    serves-noted (a .kind) (a .word) (a .t1) (a .heard) (begun .if1 .left) (moved .place-after .result) (moved .place-after .ensures)
+    serves-noted (a .kind) (a .word) (a .t1) (a .judged) (begun .if1 .left) (moved .place-after .result) (moved .place-after .ensures)
     (counted .count-frame .result) (counted .count-frame .ensures) (c .calls-at .result) (c .calls-at .ensures)
     (c .before .before .if2 .taken) (c .before .if3 .taken)
 
@@ -48,7 +48,7 @@ returns-3 c =
     let moved = counted .before .before in
     let begun = moved .before in
     let a = begun .before .args in
-    serves-good (a .kind) (a .word) (a .t1) (a .heard) (begun .if1 .left) (moved .place-after .result) (moved .place-after .ensures)
+    serves-good (a .kind) (a .word) (a .t1) (a .judged) (begun .if1 .left) (moved .place-after .result) (moved .place-after .ensures)
     (counted .count-frame .result) (counted .count-frame .ensures) (c .before .if2 .taken) (c .if3 .left)
 
 returns-4 : tie.Need-returns-4
@@ -57,7 +57,7 @@ returns-4 c =
     let moved = counted .before .before in
     let begun = moved .before in
     let a = begun .before .args in
-    serves-again (a .kind) (a .word) (a .t1) (a .heard) (begun .if1 .left) (moved .place-after .result) (moved .place-after .ensures)
+    serves-again (a .kind) (a .word) (a .t1) (a .judged) (begun .if1 .left) (moved .place-after .result) (moved .place-after .ensures)
     (counted .count-frame .result) (counted .count-frame .ensures) (c .before .if2 .left) (c .if4 .taken)
 
 element-write-self-4 : tie.Need-element-write-self-4
@@ -69,7 +69,7 @@ returns-5 c =
     let moved = counted .before .before in
     let begun = moved .before in
     let a = begun .before .args in
-    serves-failed (a .kind) (a .word) (a .t1) (a .heard) (begun .if1 .left) (moved .place-after .result) (moved .place-after .ensures)
+    serves-failed (a .kind) (a .word) (a .t1) (a .judged) (begun .if1 .left) (moved .place-after .result) (moved .place-after .ensures)
     (counted .count-frame .result) (counted .count-frame .ensures) (c .before .if2 .left) (c .if4 .left)
 
 pub serve-spec : {M : Type 1} → statement M

@@ -1,5 +1,5 @@
 -- `run::Run::trigger` meets its contract. Assumes nothing.
-use Rattle.refusals.specs.Writing.{writtenOnPaper}
+use Rattle.refusals.specs.Writing.{writtenMeaning}
 use mathlib.Core.Path.{sym, ap, _∙_}
 use native.Mathlib.Omega.{arith}
 use Rattle.run.proofs.Laws.{room, triggers}
@@ -16,7 +16,7 @@ enum-told c = search needs
 count-requires : tie.Need-count-requires
 count-requires c κs =
     let at-give = c .before .before .before .before in
-    omega (arith, room _ _ _ _ (sym (at-give .give .ensures .answer) ∙ ap writtenOnPaper (c .enum-told .given .1)))
+    omega (arith, room _ _ _ _ (sym (at-give .give .ensures .answer) ∙ ap writtenMeaning (c .enum-told .given .1)))
 
 enum-told-2 : tie.Need-enum-told-2
 enum-told-2 c = search needs

@@ -1,0 +1,12 @@
+-- What only the code's shape needs: characters stored in the lent text, one part after another.
+use Prim.Native.Nat.{ℕ, _+_, _≤_}
+use mathlib.Core.Path.{_≡_}
+use mathlib.Core.List.{List}
+use lib.ListN.{length}
+use lib.Seq.{sets}
+
+-- characters were stored from a place on, at most so many; the place after them
+pub record Appended (before : List ℕ) (at : ℕ) (characters : List ℕ) (most : ℕ) (next : ℕ) (after : List ℕ) : Type 0 where
+  pub place : next ≡ at + length characters
+  pub room : next ≤ at + most
+  pub text : after ≡ sets before at characters
