@@ -143,7 +143,8 @@ module _ (β : Board) (g : Begin) (returned : Board) (start : returned ≡ start
   board-of : lastBoard returned ss ≡ boardAtEnd β g (itemsOf ss)
   board-of = chained-final returned ss p ∙ ap (λ (γ : Board). final γ (itemsOf ss)) start
 
-pub demand-3-of-calls : (β : Board) (g : Begin) (r : CommandResult) → BegunBy β g r → (one two : List ServedItem) → Chained (r .board) one → Chained (r .board) two
+pub demand-3-of-calls : (β : Board) (g : Begin) (r : CommandResult) → BegunBy β g r
+    → (one two : List ServedItem) → Chained (r .board) one → Chained (r .board) two
     → itemsOf two ≡ inOrder (itemsOf one) → OfCalls β g (r .board) one two
 demand-3-of-calls β g r b one two p q e =
     let start : r .board ≡ startOf β g = returned-by β g r b in

@@ -58,8 +58,13 @@ module _ (kind : PassKind) (w : ℕ) where
   unfolding missed placed withRecord
   sent-missed k = go (ltb (k .tries) 2)
     where
-      go : (t : Bool) → Counted (k .sent)
-          (cond {A = Moved} t (withOutcome Again (placed k (k .board) (k .code) (k .tries + 1))) (withOutcome BoardFailed (advanced kind w (withRecord k))) .state)
+      again : Moved
+      again = withOutcome Again (placed k (k .board) (k .code) (k .tries + 1))
+
+      failed : Moved
+      failed = withOutcome BoardFailed (advanced kind w (withRecord k))
+
+      go : (t : Bool) → Counted (k .sent) (cond {A = Moved} t again failed .state)
       go true = refl
       go false = sent-advanced (withRecord k)
 

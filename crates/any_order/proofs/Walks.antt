@@ -203,7 +203,9 @@ module _ (frame : Step → List ℕ) (kind : PassKind) (w : ℕ) where
 
   walks-failed : (k : Crate) → k .board < 10 → 2 ≤ k .tries → Fit kind k → gives (missed kind w k) ≡ says frame BoardFailed (failedPass kind w k)
   unfolding missed
-  walks-failed k b t fit = rw (le-ltb _ _ t) (gives-outcome BoardFailed (advanced kind w (withRecord k)) ∙ ap (says frame BoardFailed) (view-failed kind w k b fit))
+  walks-failed k b t fit =
+      rw (le-ltb _ _ t)
+      (gives-outcome BoardFailed (advanced kind w (withRecord k)) ∙ ap (says frame BoardFailed) (view-failed kind w k b fit))
 
   moved-good : (k : Crate) (h : Judged) → h .good ≡ true → moved kind w k h ≡ passed kind w k h
   moved-good k h g = rw g

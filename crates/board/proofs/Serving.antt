@@ -43,7 +43,8 @@ module _ (β : Board) (i : ℕ) where
     frame-of = ap (λ (s : ℕ × ℕ). stepFrame (β .block) i (s .0) (s .1)) (sym same-step)
 
     -- it is written under the rows 11 and 12, neither of which applies
-    pub fetched : (frame out after : List ℕ) (r : Written) → frame ≡ stepFrame (β .block) i b code → Wrote [] frame out r after → Wrote (fetchRules β i) (frameAt β i) out r after
+    pub fetched : (frame out after : List ℕ) (r : Written) → frame ≡ stepFrame (β .block) i b code
+        → Wrote [] frame out r after → Wrote (fetchRules β i) (frameAt β i) out r after
     unfolding outstandingAnswer
     fetched frame out after r q w =
         wrote-under (fetchRules β i) (frameAt β i) out r after (given-clear (fetchRules β i) _ (b, code) (sym e))

@@ -49,7 +49,8 @@ module _ {S E O : Type 0} (d : S) (f : ℕ → S → E → O × S) (no : O) wher
   unfolding one
   one-high cs x h = rw (le-leb _ _ h)
 
-  pub one-low : (cs : List S) (x : Item) → x .0 < length cs → one cs x ≡ (f (x .0) (getD cs (x .0) d) (x .1) .0, set cs (x .0) (f (x .0) (getD cs (x .0) d) (x .1) .1))
+  pub one-low : (cs : List S) (x : Item) → x .0 < length cs
+      → one cs x ≡ (f (x .0) (getD cs (x .0) d) (x .1) .0, set cs (x .0) (f (x .0) (getD cs (x .0) d) (x .1) .1))
   unfolding one
   one-low cs x h = rw (lt-leb _ _ h)
 
@@ -95,7 +96,8 @@ module _ {S E O : Type 0} (d : S) (f : ℕ → S → E → O × S) (no : O) wher
   end-at c cs [] h = refl
   end-at c cs (x ∷ xs) h = go (head index c x) (end-at c (one cs x .1) xs (rw (one-length cs x) h))
     where
-      go : Head index c x → getD (end (one cs x .1) xs) c d ≡ endAlone c (getD (one cs x .1) c d) (only index c xs) → getD (end (one cs x .1) xs) c d ≡ endAlone c (getD cs c d) (only index c (x ∷ xs))
+      go : Head index c x → getD (end (one cs x .1) xs) c d ≡ endAlone c (getD (one cs x .1) c d) (only index c xs)
+          → getD (end (one cs x .1) xs) c d ≡ endAlone c (getD cs c d) (only index c (x ∷ xs))
       go (here e) ih = rw (only-take index c x xs e) (ih ∙ ap (λ s. endAlone c s (only index c xs)) (one-own c cs x h e))
       go (other e) ih = rw (only-skip index c x xs e) (ih ∙ ap (λ s. endAlone c s (only index c xs)) (one-other c cs x e))
 
@@ -105,7 +107,8 @@ module _ {S E O : Type 0} (d : S) (f : ℕ → S → E → O × S) (no : O) wher
   out-at c cs [] h = refl
   out-at c cs (x ∷ xs) h = go (head index c x) (out-at c (one cs x .1) xs (rw (one-length cs x) h))
     where
-      go : Head index c x → only indexOf c (out (one cs x .1) xs) ≡ outAlone c (getD (one cs x .1) c d) (only index c xs) → only indexOf c ((x, one cs x .0) ∷ out (one cs x .1) xs) ≡ outAlone c (getD cs c d) (only index c (x ∷ xs))
+      go : Head index c x → only indexOf c (out (one cs x .1) xs) ≡ outAlone c (getD (one cs x .1) c d) (only index c xs)
+          → only indexOf c ((x, one cs x .0) ∷ out (one cs x .1) xs) ≡ outAlone c (getD cs c d) (only index c (x ∷ xs))
       go (here e) ih =
           rw (only-take index c x xs e)
           (only-take indexOf c (x, one cs x .0) (out (one cs x .1) xs) e
@@ -121,7 +124,9 @@ module _ {S E O : Type 0} (d : S) (f : ℕ → S → E → O × S) (no : O) wher
   out-only c cs [] h = refl
   out-only c cs (x ∷ xs) h = go (head index c x) (out-only c (one cs x .1) xs (rw (one-length cs x) h)) (out-only c cs xs h)
     where
-      go : Head index c x → out (one cs x .1) (only index c xs) ≡ outAlone c (getD (one cs x .1) c d) (only index c xs) → out cs (only index c xs) ≡ outAlone c (getD cs c d) (only index c xs) → out cs (only index c (x ∷ xs)) ≡ outAlone c (getD cs c d) (only index c (x ∷ xs))
+      go : Head index c x → out (one cs x .1) (only index c xs) ≡ outAlone c (getD (one cs x .1) c d) (only index c xs)
+          → out cs (only index c xs) ≡ outAlone c (getD cs c d) (only index c xs)
+          → out cs (only index c (x ∷ xs)) ≡ outAlone c (getD cs c d) (only index c (x ∷ xs))
       go (here e) ih jh =
           rw (only-take index c x xs e)
           (ap₂ (λ o l. (x, o) ∷ l) (one-gives c cs x h e) (ih ∙ ap (λ s. outAlone c s (only index c xs)) (one-own c cs x h e)))
@@ -137,7 +142,8 @@ module _ {S E O : Type 0} (d : S) (f : ℕ → S → E → O × S) (no : O) wher
   out-from cs [] = refl
   out-from cs (x ∷ xs) = go (side index (length cs) x) (rw (one-length cs x) at (out-from (one cs x .1) xs))
     where
-      go : Side index (length cs) x → from indexOf (length cs) (out (one cs x .1) xs) ≡ turned (from index (length cs) xs) → from indexOf (length cs) ((x, one cs x .0) ∷ out (one cs x .1) xs) ≡ turned (from index (length cs) (x ∷ xs))
+      go : Side index (length cs) x → from indexOf (length cs) (out (one cs x .1) xs) ≡ turned (from index (length cs) xs)
+          → from indexOf (length cs) ((x, one cs x .0) ∷ out (one cs x .1) xs) ≡ turned (from index (length cs) (x ∷ xs))
       go (high e) ih =
           rw (from-take index (length cs) x xs e)
           (from-take indexOf (length cs) (x, one cs x .0) (out (one cs x .1) xs) e ∙ ap₂ (λ (p : O × List S) l. (x, p .0) ∷ l) (one-high cs x e) ih)
@@ -148,7 +154,8 @@ module _ {S E O : Type 0} (d : S) (f : ℕ → S → E → O × S) (no : O) wher
   from-out cs [] = refl
   from-out cs (x ∷ xs) = go (side index (length cs) x) (from-out cs xs)
     where
-      go : Side index (length cs) x → out cs (from index (length cs) xs) ≡ turned (from index (length cs) xs) → out cs (from index (length cs) (x ∷ xs)) ≡ turned (from index (length cs) (x ∷ xs))
+      go : Side index (length cs) x → out cs (from index (length cs) xs) ≡ turned (from index (length cs) xs)
+          → out cs (from index (length cs) (x ∷ xs)) ≡ turned (from index (length cs) (x ∷ xs))
       go (high e) ih =
           rw (from-take index (length cs) x xs e)
           (rw (one-high cs x e) (ap (λ l. (x, no) ∷ l) ih))

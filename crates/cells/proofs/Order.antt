@@ -59,7 +59,8 @@ module _ {Z : Type 0} (key : Z → ℕ) where
   only-append c [] ys = refl
   only-append c (x ∷ xs) ys = go (eqb (key x) c) (only-append c xs ys)
     where
-      go : (t : Bool) → only key c (xs ++ ys) ≡ only key c xs ++ only key c ys → cond t (x ∷ only key c (xs ++ ys)) (only key c (xs ++ ys)) ≡ cond t (x ∷ only key c xs) (only key c xs) ++ only key c ys
+      go : (t : Bool) → only key c (xs ++ ys) ≡ only key c xs ++ only key c ys
+          → cond t (x ∷ only key c (xs ++ ys)) (only key c (xs ++ ys)) ≡ cond t (x ∷ only key c xs) (only key c xs) ++ only key c ys
       go true ih = ap (λ l. x ∷ l) ih
       go false ih = ih
 
@@ -94,14 +95,17 @@ module _ {Z : Type 0} (key : Z → ℕ) where
   pub only-below-none : (c k : ℕ) (xs : List Z) → k ≤ c → only key c (below key k xs) ≡ []
   unfolding below only
   only-below-none c zero xs h = refl
-  only-below-none c (suc k) xs h = only-append c (below key k xs) (only key k xs) ∙ ap₂ _++_ (only-below-none c k xs (omega arith)) (only-other c k xs (λ q. omega arith))
+  only-below-none c (suc k) xs h =
+      only-append c (below key k xs) (only key k xs)
+      ∙ ap₂ _++_ (only-below-none c k xs (omega arith)) (only-other c k xs (λ q. omega arith))
 
   only-below : (c k : ℕ) (xs : List Z) → c < k → only key c (below key k xs) ≡ only key c xs
   unfolding below
   only-below c zero xs h = absurd (omega arith)
   only-below c (suc k) xs h = only-append c (below key k xs) (only key k xs) ∙ go (eqb k c) refl (only-below c k xs)
     where
-      go : (t : Bool) → eqb k c ≡ t → (c < k → only key c (below key k xs) ≡ only key c xs) → only key c (below key k xs) ++ only key c (only key k xs) ≡ only key c xs
+      go : (t : Bool) → eqb k c ≡ t → (c < k → only key c (below key k xs) ≡ only key c xs)
+          → only key c (below key k xs) ++ only key c (only key k xs) ≡ only key c xs
       go true e ih =
           let q : k ≡ c = eqb-true _ _ e in
           ap₂ _++_ (only-below-none c k xs (omega arith)) (rw q (only-only c xs))

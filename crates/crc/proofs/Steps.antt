@@ -55,7 +55,8 @@ agree F G p q z zero t n h = let e : n ≡ 0 = omega arith in rw e z
 agree F G p q z (suc k) t n h =
     let top : n / 2 ^ k < 2 = shr-lt 1 k (rw one-add h) in
     let one : n / 2 ^ k % 2 ≡ n / 2 ^ k = omega arith in
-    let bit : F (n / 2 ^ k % 2 * 2 ^ k) ≡ G (n / 2 ^ k % 2 * 2 ^ k) = digit (λ (d : ℕ). F (d * 2 ^ k) ≡ G (d * 2 ^ k)) (rw zero-mul z) (rw one-mul (t k (omega arith))) (n / 2 ^ k) in
+    let bit : F (n / 2 ^ k % 2 * 2 ^ k) ≡ G (n / 2 ^ k % 2 * 2 ^ k) =
+    digit (λ (d : ℕ). F (d * 2 ^ k) ≡ G (d * 2 ^ k)) (rw zero-mul z) (rw one-mul (t k (omega arith))) (n / 2 ^ k) in
     let rest : F (n % 2 ^ k) ≡ G (n % 2 ^ k) = agree F G p q z k (λ j l. t j (omega arith)) (n % 2 ^ k) (mod-lt n (pow-pos k)) in
     let whole : bitXor (n / 2 ^ k * 2 ^ k) (n % 2 ^ k) ≡ n = xor-shifted (n / 2 ^ k) k (n % 2 ^ k) (mod-lt n (pow-pos k)) ∙ split n k in
     sym (ap F whole)
@@ -131,7 +132,9 @@ twice-linear = after foldedOnce (foldedAt 16 2 4) once-linear (foldedAt-linear 1
 wordCrc-linear : Linear wordCrc
 wordCrc-linear =
     sum (λ (w : ℕ). crcByte 0 (foldedTwice w / 2 ^ 8 % 2 ^ 8)) (λ (w : ℕ). foldedTwice w % 2 ^ 8)
-    (register (λ (w : ℕ). 0) (λ (w : ℕ). foldedTwice w / 2 ^ 8 % 2 ^ 8) zero-linear (after foldedTwice (λ (w : ℕ). w / 2 ^ 8 % 2 ^ 8) twice-linear (byte-linear 8)))
+    (register (λ (w : ℕ). 0) (λ (w : ℕ). foldedTwice w / 2 ^ 8 % 2 ^ 8)
+    zero-linear
+    (after foldedTwice (λ (w : ℕ). w / 2 ^ 8 % 2 ^ 8) twice-linear (byte-linear 8)))
     (after foldedTwice (λ (w : ℕ). w % 2 ^ 8) twice-linear (low-linear 8))
 
 wordRight : ℕ → Bool
@@ -157,7 +160,9 @@ module _ (F : ℕ → ℕ) (p : Linear F) (k : ℕ) (x : xors (replicate k 0) (r
 
   on : crcWord (F 0) ≡ later k 0 → T (allBelow (onRight F k) 32) → (w : ℕ) → w < 4294967296 → crcWord (F w) ≡ later k w
   unfolding onRight
-  on z t = agree (λ (w : ℕ). crcWord (F w)) (later k) (after F crcWord p word-linear) later-linear z 32 (λ j h. eqb→eq (crcWord (F (2 ^ j))) (later k (2 ^ j)) (below (onRight F k) 32 t j h))
+  on z t =
+      agree (λ (w : ℕ). crcWord (F w)) (later k) (after F crcWord p word-linear) later-linear z 32
+      (λ j h. eqb→eq (crcWord (F (2 ^ j))) (later k (2 ^ j)) (below (onRight F k) 32 t j h))
 
 -- as `four_bytes_on` computes it
 abbrev wordFolded : ℕ → ℕ
@@ -276,7 +281,8 @@ zeros-added : (bs : List ℕ) → xors (replicate (length bs) 0) bs ≡ bs
 zeros-added [] = refl
 zeros-added (b ∷ bs) = ap₂ (λ (x : ℕ) (l : List ℕ). x ∷ l) (xor-zero-l b) (zeros-added bs)
 
-word-on : (w l v : ℕ) (bs : List ℕ) → crcWord l ≡ crcFrom (crcWord w) (replicate (length bs) 0) → crcWord v ≡ crc bs → crcWord (bitXor l v) ≡ crcFrom (crcWord w) bs
+word-on : (w l v : ℕ) (bs : List ℕ) → crcWord l ≡ crcFrom (crcWord w) (replicate (length bs) 0) → crcWord v ≡ crc bs
+    → crcWord (bitXor l v) ≡ crcFrom (crcWord w) bs
 word-on w l v bs p q =
     word-linear l v
     ∙ ap₂ bitXor p q

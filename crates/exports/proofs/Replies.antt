@@ -50,7 +50,7 @@ module _ (items : List ℕ) (n i : ℕ) (l : i < n) where
         let rest = drop 29 (drop (29 * i) items) in
         let judged : h ≡ judgedReply (frameAt β number) reply = q ∙ ap (judgedReply (frameAt β number)) (reply-is k e) in
         ap (λ (j : ℕ). goodOf j β (drop (29 * i) items)) (one-left n i l)
-        ∙ ap (λ (c : ℕ). goodOutcome (replyAnswer β c (judgedReply (frameAt β c) reply)) + goodOf m (boardReplied β c (judgedReply (frameAt β c) reply)) rest) number-is
+        ∙ ap (λ (c : ℕ). let g = judgedReply (frameAt β c) reply in goodOutcome (replyAnswer β c g) + goodOf m (boardReplied β c g) rest) number-is
         ∙ ap (λ (g : Judged). goodOutcome (replyAnswer β number g) + goodOf m (boardReplied β number g) rest) (sym judged)
         ∙ ap (λ (x : List ℕ). goodOutcome (replyAnswer β number h) + goodOf m (boardReplied β number h) x) (past 29 i items)
 

@@ -8,7 +8,7 @@ use mathlib.Core.Logic.{⊎-elim}
 use native.Mathlib.Omega.{arith}
 use native.Mathlib.Nat.{eq-or-lt-of-le}
 use borrow.Author.Tests.{eqb-true, eqb-false, eq-eqb, ltb-true}
-use lib.Dec.{eqb, ltb}
+use lib.Dec.{T, eqb, ltb, ltb→lt}
 use lib.ListN.{length, getD, take, getD-replicate}
 use Rattle.numbers.specs.Numbers.{idLimit}
 use Rattle.crc.specs.Crc.{crc}
@@ -80,7 +80,8 @@ module _ (sent r : List ℕ) where
   pub good-only-if : goodReply sent r ≡ true → Good sent r
   unfolding goodReply conditions
   good-only-if g =
-      let at : (n : ℕ) → getD (conditions sent r) n true ≡ true = λ n. each n (conditions sent r) g in record {
+      let at : (n : ℕ) → getD (conditions sent r) n true ≡ true = λ n. each n (conditions sent r) g in
+      let of-ping : IsPing sent → pingData r ≡ true = λ p. sym (ping-data p) ∙ at 6 in record {
         bytes = eqb-true _ _ (at 0);
         first = eqb-true _ _ (at 1);
         destination = eqb-true _ _ (at 2);
@@ -88,8 +89,8 @@ module _ (sent r : List ℕ) where
         code = eqb-true _ _ (at 4);
         right-crc = eqb-true _ _ (at 5);
         equal = λ n. same-agree 21 5 sent r (others sent r n ∙ at 6);
-        below = λ p. ltb-true _ _ (fst (ltb (dnaIn r) idLimit) _ (sym (ping-data p) ∙ at 6));
-        zeros-after = λ p k l h. same-agree 13 13 zeros r (snd (ltb (dnaIn r) idLimit) _ (sym (ping-data p) ∙ at 6)) k l h ∙ getD-replicate 28 k 0 0 (omega arith);
+        below = λ p. ltb-true _ _ (fst (ltb (dnaIn r) idLimit) _ (of-ping p));
+        zeros-after = λ p k l h. same-agree 13 13 zeros r (snd (ltb (dnaIn r) idLimit) _ (of-ping p)) k l h ∙ getD-replicate 28 k 0 0 (omega arith);
       }
 
   pub good-if : Good sent r → goodReply sent r ≡ true
@@ -123,6 +124,7 @@ handed : (sent r s : List ℕ) → Alike r s → goodReply sent r ≡ true → g
 handed sent r s a e =
     let g = good-only-if sent r e in
     let at : (k : ℕ) → k < 26 → (k ≡ 3 → ⊥) → getD s k 0 ≡ getD r k 0 = λ k h n. sym (a .elsewhere k n (omega arith) (omega arith)) in
+    let dna : (k : ℕ) → T (ltb k 8) → getD s (5 + k) 0 ≡ getD r (5 + k) 0 = λ k t. let h = ltb→lt k 8 t in at (5 + k) (omega arith) (omega arith) in
     good-if sent s (record {
       bytes = sym (a .lengths) ∙ g .bytes;
       first = at 0 (omega arith) (omega arith) ∙ g .first;
@@ -131,7 +133,7 @@ handed sent r s a e =
       code = at 4 (omega arith) (omega arith) ∙ g .code;
       right-crc = a .crc-s;
       equal = λ n k l h. at k (omega arith) (omega arith) ∙ g .equal n k l h;
-      below = λ p. rw (at 5 (omega arith) (omega arith), at 6 (omega arith) (omega arith), at 7 (omega arith) (omega arith), at 8 (omega arith) (omega arith), at 9 (omega arith) (omega arith), at 10 (omega arith) (omega arith), at 11 (omega arith) (omega arith), at 12 (omega arith) (omega arith)) (g .below p);
+      below = λ p. rw (dna 0 tt, dna 1 tt, dna 2 tt, dna 3 tt, dna 4 tt, dna 5 tt, dna 6 tt, dna 7 tt) (g .below p);
       zeros-after = λ p k l h. at k (omega arith) (omega arith) ∙ g .zeros-after p k l h;
     })
 

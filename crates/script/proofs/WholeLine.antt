@@ -101,10 +101,12 @@ module _ (letter c : ℕ) (cs : List ℕ) (rest : (n high : ℕ) (bytes : List �
         → lineAfter r bytes (c ∷ cs) ≡ lineFrom letter n high bytes (valueOf c ∷ valuesIn cs)
     one-value false room odd other d m p =
         let v = ltb-false (valueOf c) 16 d in
-        let e = order-no-digit r c bytes other v in after (e .0) (e .1) ∙ malformed-stays r bytes cs ∙ more-no-digit letter n high bytes (valueOf c) (valuesIn cs) v
+        let e = order-no-digit r c bytes other v in
+        after (e .0) (e .1) ∙ malformed-stays r bytes cs ∙ more-no-digit letter n high bytes (valueOf c) (valuesIn cs) v
     one-value true false odd other d m p =
         let k = ltb-false n 4096 m in
-        let e = order-full r c bytes other (ltb-true (valueOf c) 16 d) k in after (e .0) (e .1) ∙ malformed-stays r bytes cs ∙ more-full letter n high bytes (valueOf c) (valuesIn cs) k
+        let e = order-full r c bytes other (ltb-true (valueOf c) 16 d) k in
+        after (e .0) (e .1) ∙ malformed-stays r bytes cs ∙ more-full letter n high bytes (valueOf c) (valuesIn cs) k
     one-value true true false other d m p =
         let v = ltb-true (valueOf c) 16 d in
         let k = ltb-true n 4096 m in

@@ -72,7 +72,9 @@ missed-by : (kind : PassKind) (w : ℕ) (k : Crate) → missed kind w k .state �
 unfolding missed
 missed-by kind w k = go (ltb (k .tries) 2)
   where
-    go : (t : Bool) → cond t (withOutcome Again (placed k (k .board) (k .code) (k .tries + 1))) (withOutcome BoardFailed (advanced kind w (withRecord k))) .state ≡ missedBy kind w k t
+    go : (t : Bool)
+        → cond t (withOutcome Again (placed k (k .board) (k .code) (k .tries + 1))) (withOutcome BoardFailed (advanced kind w (withRecord k))) .state
+        ≡ missedBy kind w k t
     go true = refl
     go false = refl
 
@@ -111,7 +113,8 @@ unfolding withCrates
 timed-apart β i true = record { run = refl; many = refl; others = λ j h. refl }
 timed-apart β i false = record { run = refl; many = length-set (β .crates) i _; others = λ j h. getD-set-other (β .crates) i j _ noCrate h }
 
-timed-enough : (β : Board) (i n : ℕ) (t : Bool) → isDone (crateAt β i) ≡ t → i < length (β .crates) → Enough (suc n) (crateAt β i) → Enough n (crateAt (timedUp β i t) i)
+timed-enough : (β : Board) (i n : ℕ) (t : Bool) → isDone (crateAt β i) ≡ t → i < length (β .crates)
+    → Enough (suc n) (crateAt β i) → Enough n (crateAt (timedUp β i t) i)
 unfolding withCrates
 timed-enough β i n true p h e = done-enough n (crateAt β i .board) (crateAt β i .tries) (leb-true _ _ p)
 timed-enough β i n false p h e =

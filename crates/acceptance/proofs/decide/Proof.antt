@@ -19,7 +19,9 @@ enum-known-r : tie.Need-enum-known-r
 enum-known-r c = search needs
 
 returns : tie.Need-returns
-returns c = decides-state _ _ _ _ (sym (c .before .before .before .before .read-command .ensures) ∙ ap readMeaning (c .before .before .c .given .1)) _ (c .accept .ensures)
+returns c =
+    let found = c .before .before in
+    decides-state _ _ _ _ (sym (found .before .before .read-command .ensures) ∙ ap readMeaning (found .c .given .1)) _ (c .accept .ensures)
 
 returns-2 : tie.Need-returns-2
 returns-2 c = decides-refused _ _ _ (sym (ap readMeaning (c .before .r .given .1)) ∙ c .before .before .before .read-command .ensures)

@@ -14,7 +14,10 @@ array-share-prefix-bytes : tie.Need-array-share-prefix-bytes
 array-share-prefix-bytes c = search needs
 
 slice-aggregate-list-answers : tie.Need-slice-aggregate-list-answers
-slice-aggregate-list-answers c = let n : length (c .before .before .before .args .t2) ≡ 2048 = search needs in sym (length-take-le (c .before .before .before .args .n) (c .before .before .before .args .t2) (omega arith))
+slice-aggregate-list-answers c =
+    let a = c .before .before .before .args in
+    let whole : length (a .t2) ≡ 2048 = search needs in
+    sym (length-take-le (a .n) (a .t2) (omega arith))
 
 list-answers-requires : tie.Need-list-answers-requires
 list-answers-requires c κs = search needs

@@ -33,7 +33,10 @@ part-result-end : tie.Need-part-result-end
 part-result-end c = search needs
 
 returns-2 : tie.Need-returns-2
-returns-2 c = board-short _ _ _ _ (length (now (c .before .before .before .before .before .args .block)) - c .before .before .before .begin-of .result) (c .before .before .before .begin-of .ensures) (omega arith) (omega arith)
+returns-2 c =
+    let begun = c .before .before .before in
+    let block = now (begun .before .before .args .block) in
+    board-short _ _ _ _ (length block - begun .begin-of .result) (begun .begin-of .ensures) (omega arith) (omega arith)
 
 add-to : tie.Need-add-to
 add-to c = search needs

@@ -36,9 +36,21 @@ word-at-requires-10 c κs = search needs
 
 returns : tie.Need-returns
 returns c =
+    let dac-h = c .before in
+    let dac-d = dac-h .before in
+    let dac-c = dac-d .before in
+    let dac-b = dac-c .before in
+    let dac-a = dac-b .before in
+    let enable-3 = dac-a .before in
+    let enable-2 = enable-3 .before in
+    let enable-1 = enable-2 .before in
+    let enable-0 = enable-1 .before in
     λ i. record {
-      enables = c .before .before .before .before .before .before .before .before .before .word-at .ensures i ∷ c .before .before .before .before .before .before .before .before .word-at2 .ensures i ∷ c .before .before .before .before .before .before .before .word-at3 .ensures i ∷ c .before .before .before .before .before .before .word-at4 .ensures i ∷ [];
-      dacs = c .before .before .before .before .before .word-at5 .ensures i ∷ c .before .before .before .before .word-at6 .ensures i ∷ c .before .before .before .word-at7 .ensures i ∷ c .before .before .word-at8 .ensures i ∷ c .before .word-at9 .ensures i ∷ [];
+      enables = enable-0 .word-at .ensures i ∷ enable-1 .word-at2 .ensures i ∷ enable-2 .word-at3 .ensures i ∷ enable-3 .word-at4 .ensures i ∷ [];
+      dacs =
+          dac-a .word-at5 .ensures i ∷ dac-b .word-at6 .ensures i ∷ dac-c .word-at7 .ensures i ∷ dac-d .word-at8 .ensures i
+          ∷ dac-h .word-at9 .ensures i
+          ∷ [];
       prescaling = c .word-at10 .ensures i;
     }
 

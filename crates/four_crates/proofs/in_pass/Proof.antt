@@ -36,14 +36,21 @@ array-copy-out-c c = search needs
 
 returns-3 : tie.Need-returns-3
 unfolding inPass
-returns-3 c = rw (le-leb _ _ (c .before .before .before .before .before .before .if1 .left), le-leb _ _ (c .before .before .before .if2 .left), lt-leb _ _ (c .if3 .taken))
+returns-3 c =
+    let second = c .before .before .before in
+    rw (le-leb _ _ (second .before .before .before .if1 .left), le-leb _ _ (second .if2 .left), lt-leb _ _ (c .if3 .taken))
 
 array-copy-out-d : tie.Need-array-copy-out-d
 array-copy-out-d c = search needs
 
 returns-4 : tie.Need-returns-4
 unfolding inPass
-returns-4 c = rw (le-leb _ _ (c .before .before .before .before .before .before .before .before .if1 .left), le-leb _ _ (c .before .before .before .before .before .if2 .left), le-leb _ _ (c .before .before .if3 .left)) (below-ten (crateOf (c .before .before .before .before .before .before .before .before .before .before .before .args .t1) 3 .board))
+returns-4 c =
+    let third = c .before .before in
+    let second = third .before .before .before in
+    let first = second .before .before .before in
+    let crates = first .before .before .before .args .t1 in
+    rw (le-leb _ _ (first .if1 .left), le-leb _ _ (second .if2 .left), le-leb _ _ (third .if3 .left)) (below-ten (crateOf crates 3 .board))
 
 pub in-pass-spec : {M : Type 1} → statement M
 in-pass-spec =

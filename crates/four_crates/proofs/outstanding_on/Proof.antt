@@ -21,11 +21,17 @@ is-done-requires c κs = search needs
 
 returns-2 : tie.Need-returns-2
 unfolding outstandingAnswer
-returns-2 c = sym (rules-12 (c .before .before .before .before .args .t1) (c .before .before .before .before .args .index) _ (c .before .before .before .if1 .left) (sym (c .before .is-done .ensures) ∙ c .if2 .taken))
+returns-2 c =
+    let low = c .before .before .before in
+    let a = low .before .args in
+    sym (rules-12 (a .t1) (a .index) _ (low .if1 .left) (sym (c .before .is-done .ensures) ∙ c .if2 .taken))
 
 returns-3 : tie.Need-returns-3
 unfolding outstandingAnswer
-returns-3 c = sym (rules-clear (c .before .before .before .before .args .t1) (c .before .before .before .before .args .index) _ (c .before .before .before .if1 .left) (sym (c .before .is-done .ensures) ∙ c .if2 .left))
+returns-3 c =
+    let low = c .before .before .before in
+    let a = low .before .args in
+    sym (rules-clear (a .t1) (a .index) _ (low .if1 .left) (sym (c .before .is-done .ensures) ∙ c .if2 .left))
 
 pub outstanding-on-spec : {M : Type 1} → statement M
 outstanding-on-spec =

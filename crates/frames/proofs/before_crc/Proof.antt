@@ -114,7 +114,11 @@ unfolding beforeCrc
 returns c =
     let a = c .before .before .before .before .before .args in
     let n : length (a .t3) ≡ 5 = search needs in
-    rw (c .before .before .before .before .word-bytes .ensures, c .before .before .before .word-bytes2 .ensures, c .before .before .word-bytes3 .ensures, c .before .word-bytes4 .ensures, c .word-bytes5 .ensures)
+    let fourth = c .before in
+    let third = fourth .before in
+    let second = third .before in
+    let first = second .before in
+    rw (first .word-bytes .ensures, second .word-bytes2 .ensures, third .word-bytes3 .ensures, fourth .word-bytes4 .ensures, c .word-bytes5 .ensures)
     (ap (beforeCrc (a .address) (a .number)) (listed (a .t3) 5 n))
 
 pub before-crc-spec : {M : Type 1} → statement M

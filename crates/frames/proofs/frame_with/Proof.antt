@@ -29,8 +29,10 @@ array-write-f c = search needs
 
 returns : tie.Need-returns
 returns c =
-    let a = c .before .before .before .args in
-    rw (c .before .before .before-crc .ensures) (crc-stored (a .address) (a .number) (a .w) _ (c .crc8 .ensures ∙ ap (λ (f : List ℕ). crc (take 27 f)) (c .before .before .before-crc .ensures)))
+    let built = c .before .before in
+    let a = built .before .args in
+    let sum = c .crc8 .ensures ∙ ap (λ (f : List ℕ). crc (take 27 f)) (built .before-crc .ensures) in
+    rw (built .before-crc .ensures) (crc-stored (a .address) (a .number) (a .w) _ sum)
 
 pub frame-with-spec : {M : Type 1} → statement M
 frame-with-spec =

@@ -50,7 +50,9 @@ cast-t27 c = search needs
 
 returns-2 : tie.Need-returns-2
 unfolding entryWords
-returns-2 c = simp (ne-eqb _ _ (c .before .before .before .before .if1 .left)) (rw (c .before .before .words64 .ensures, c .before .before .before .address-of .ensures))
+returns-2 c =
+    let addressed = c .before .before .before in
+    simp (ne-eqb _ _ (addressed .before .if1 .left)) (rw (c .before .before .words64 .ensures, addressed .address-of .ensures))
 
 pub entry-words-spec : {M : Type 1} → statement M
 entry-words-spec =

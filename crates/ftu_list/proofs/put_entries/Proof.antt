@@ -63,23 +63,26 @@ loop-less c = search needs
 
 loop-again : tie.Need-loop-again Inv-loop μ-loop
 loop-again c =
-    let a = c .before .before .before .before .before .before .before .before .before .before .args in
-    let l = c .before .before .before .before .before .before .before .before .loop in
+    let copied-on = c .before .before in
+    let made = copied-on .before .before .before in
+    let l = made .before .before .before .loop in
+    let a = made .before .before .before .before .before .args in
+    let after = copied-on .copy-words .last .1 .0 in
     let n : length (a .t1) ≡ 40 = search needs in
     let front = entryWordsFrom 0 (take (l .k) (a .t1)) in
     let hn : length front ≡ 6 * l .k = length-entries 0 (take (l .k) (a .t1)) ∙ ap (λ (m : ℕ). 6 * m) (length-take-le (l .k) (a .t1) (omega arith)) in
     let w = entryWords (l .k) (getD (a .t1) (l .k) silent) in
-    let six : c .before .before .before .before .before .entry-words .result ≡ w = c .before .before .before .before .before .entry-words .ensures in
-    let ey : c .before .before .copy-words .last .1 .0 ≡ w ++ drop 6 (take (length (l .body) - 6 * l .k) (drop (6 * l .k) (l .body))) =
-    copied-part w (l .body) (c .before .before .copy-words .last .1 .0) (6 * l .k) 6 (length-entry (l .k) _) (omega arith)
-    (c .before .before .copy-words .ensures ∙ ap (λ (x : List ℕ). copied x (take (length (l .body) - 6 * l .k) (drop (6 * l .k) (l .body)))) six) in
+    let six : made .entry-words .result ≡ w = made .entry-words .ensures in
+    let ey : after ≡ w ++ drop 6 (take (length (l .body) - 6 * l .k) (drop (6 * l .k) (l .body))) =
+    copied-part w (l .body) after (6 * l .k) 6 (length-entry (l .k) _) (omega arith)
+    (copied-on .copy-words .ensures ∙ ap (λ (x : List ℕ). copied x (take (length (l .body) - 6 * l .k) (drop (6 * l .k) (l .body)))) six) in
     let more : entryWordsFrom 0 (take (l .k + 1) (a .t1)) ++ drop (6 * (l .k + 1)) (now (a .body)) ≡ (front ++ w) ++ drop (6 * l .k + 6) (now (a .body)) =
     ap₂ (λ (x : List ℕ) (m : ℕ). x ++ drop m (now (a .body)))
     (ap (λ (m : ℕ). entryWordsFrom 0 (take m (a .t1))) (add-one (l .k)) ∙ entries-more (a .t1) (l .k) (omega arith))
     (let q : 6 * (l .k + 1) ≡ 6 * l .k + 6 = omega arith in q) in (
       search needs,
-      part-output (now (a .body)) front w (l .body) (c .before .before .copy-words .last .1 .0) (6 * l .k) 6 hn (length-entry (l .k) _) (l .inv .1) ey ∙ sym more,
-      part-length (now (a .body)) front w (l .body) (c .before .before .copy-words .last .1 .0) (6 * l .k) 6 hn (length-entry (l .k) _) (l .inv .1) ey (omega arith),
+      part-output (now (a .body)) front w (l .body) after (6 * l .k) 6 hn (length-entry (l .k) _) (l .inv .1) ey ∙ sym more,
+      part-length (now (a .body)) front w (l .body) after (6 * l .k) 6 hn (length-entry (l .k) _) (l .inv .1) ey (omega arith),
     )
 
 same-length : tie.Need-same-length Inv-loop μ-loop

@@ -39,14 +39,16 @@ same-length c = search needs
 
 returns : tie.Need-returns
 returns c =
-    let a = c .before .before .before .before .before .before .before .before .before .before .before .before .args in
+    let head-copied = c .before .before .before .before .before .before in
+    let head-made = head-copied .before .before .before .before in
+    let a = head-made .before .before .args in
     let es = a .list .entries in
     let n : length es ≡ 40 = search length-mapped depth 8 in
-    let p = c .before .before .before .before .before .before .copy-words in
+    let p = head-copied .copy-words in
     let q = c .before .before .put-entries in
     both-output (now (a .body)) (listHead (a .list)) (entryWordsFrom 0 es) (p .last .1 .0) (q .last .1 .0) 9 240 (length-head (a .list))
     (length-entries 0 es ∙ ap (λ (m : ℕ). 6 * m) n) (omega arith)
-    (p .ensures ∙ ap (λ (l : List ℕ). copied l (now (a .body))) (c .before .before .before .before .before .before .before .before .before .before .list-head .ensures))
+    (p .ensures ∙ ap (λ (l : List ℕ). copied l (now (a .body))) (head-made .list-head .ensures))
     (q .ensures)
 
 pub put-list-spec : {M : Type 1} → statement M

@@ -54,7 +54,9 @@ crc8-requires : tie.Need-crc8-requires
 crc8-requires c κs = search needs
 
 returns-6 : tie.Need-returns-6
-returns-6 c = bad-crc _ _ (λ e. c .if6 .taken (c .before .crc8 .ensures ∙ right-zero (now (c .before .before .before .before .before .before .before .before .before .before .before .before .before .args .reply)) (omega arith) e))
+returns-6 c =
+    let a = c .before .before .before .before .before .before .before .before .before .before .before .before .before .args in
+    bad-crc _ _ (λ e. c .if6 .taken (c .before .crc8 .ensures ∙ right-zero (now (a .reply)) (omega arith) e))
 
 slice-aggregate-data-right : tie.Need-slice-aggregate-data-right
 slice-aggregate-data-right c = simp length-take (omega arith)

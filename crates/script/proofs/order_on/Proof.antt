@@ -46,11 +46,13 @@ add-t10 c = search needs
 returns-4 : tie.Need-returns-4
 returns-4 c =
     let a = c .before .before .before .before .before .args in
+    let r = a .reading in
+    let bytes = now (a .bytes) in
     let v = c .before .before .before .value-of .ensures in (
-      ap (withDigit (a .reading)) v ∙ order-digit (a .reading) (a .character) (now (a .bytes)) (omega arith) (omega arith) (omega arith),
+      ap (withDigit r) v ∙ order-digit r (a .character) bytes (omega arith) (omega arith) (omega arith),
       ⊎-elim
-          (λ t. t .1 ∙ ap (λ v. withByte (a .reading) v (now (a .bytes))) v ∙ order-low (a .reading) (a .character) (now (a .bytes)) (omega arith) (omega arith) (omega arith) (t .0 .taken))
-          (λ t. t .1 ∙ order-high (a .reading) (a .character) (now (a .bytes)) (omega arith) (omega arith) (omega arith) (t .0 .left)) (c .if4 .came),
+          (λ t. t .1 ∙ ap (λ v. withByte r v bytes) v ∙ order-low r (a .character) bytes (omega arith) (omega arith) (omega arith) (t .0 .taken))
+          (λ t. t .1 ∙ order-high r (a .character) bytes (omega arith) (omega arith) (omega arith) (t .0 .left)) (c .if4 .came),
     )
 
 pub order-on-spec : {M : Type 1} → statement M

@@ -40,7 +40,8 @@ returns-3 c = read-in _ _ _ Comment (c .enum-told2 .given .1)
 returns-4 : tie.Need-returns-4
 returns-4 c =
     let a = c .before .before .before .before .args in
-    let l = read-in (a .reading) (a .character) (now (a .bytes)) Order (c .before .before .enum-told3 .given .1) in (c .order-on .ensures .0 ∙ l .0, c .order-on .ensures .1 ∙ l .1)
+    let l = read-in (a .reading) (a .character) (now (a .bytes)) Order (c .before .before .enum-told3 .given .1) in
+    let o = c .order-on .ensures in (o .0 ∙ l .0, o .1 ∙ l .1)
 
 returns-5 : tie.Need-returns-5
 returns-5 c = read-in _ _ _ Malformed (c .enum-told4 .given .1)

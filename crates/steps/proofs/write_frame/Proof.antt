@@ -20,7 +20,10 @@ abbrev μ-loop : tie.MeasureT-loop
 μ-loop out₀ f i₀ out i = 28 - i
 
 returns : tie.Need-returns Inv-loop μ-loop
-returns c = let n : length (c .before .args .t1) ≡ 28 = search needs in wrote-short [] (c .before .args .t1) (now (c .before .args .out)) tt 28 n (c .if1 .taken)
+returns c =
+    let a = c .before .args in
+    let n : length (a .t1) ≡ 28 = search needs in
+    wrote-short [] (a .t1) (now (a .out)) tt 28 n (c .if1 .taken)
 
 loop-holds : tie.Need-loop-holds Inv-loop μ-loop
 loop-holds c = (search needs, refl, refl)
@@ -57,7 +60,8 @@ returns-2 c =
     let a = c .before .before .before .args in
     let n : length (a .t1) ≡ 28 = search needs in
     let e : l .i ≡ 28 = omega arith in
-    wrote [] (a .t1) (now (a .out)) tt 28 n _ (c .before .before .if1 .left) (l .inv .1 ∙ rw e (ap (λ (f : List _). f ++ drop 28 (now (a .out))) (take-all 28 (a .t1) (omega arith))))
+    wrote [] (a .t1) (now (a .out)) tt 28 n _ (c .before .before .if1 .left)
+    (l .inv .1 ∙ rw e (ap (λ (f : List _). f ++ drop 28 (now (a .out))) (take-all 28 (a .t1) (omega arith))))
 
 pub write-frame-spec : {M : Type 1} → statement M
 write-frame-spec =

@@ -2,6 +2,7 @@
 use Prim.Native.Nat.{ℕ, _/_}
 use mathlib.Core.Path.{_≡_, sym, ap, _∙_}
 use native.Mathlib.Omega.{arith}
+use mathlib.Core.List.{List}
 use lib.ListN.{length, take, length-replicate}
 use denote.Ref.{now}
 use borrow.Author.Needs.{needs}
@@ -12,8 +13,11 @@ use Rattle.stream.proofs.list_answers.Statement.{statement}
 use Rattle.stream.proofs.list_answers.Tie as tie
 
 -- the words of the bytes are those in front
-words-in : (c : tie.After-words3) → take (length (now (c .before .before .before .before .before .before .args .bytes)) / 2) (c .before .before .words-from-bytes .last .1 .0) ≡ wordsIn (now (c .before .before .before .before .before .before .args .bytes))
-words-in c = words-written (now (c .before .before .before .before .before .before .args .bytes)) _ _ _ (omega arith) (length-replicate {A = ℕ} 32768 0) (c .before .before .words-from-bytes .ensures)
+abbrev input : tie.After-words3 → List ℕ
+input c = now (c .before .before .before .before .before .before .args .bytes)
+
+words-in : (c : tie.After-words3) → take (length (input c) / 2) (c .before .before .words-from-bytes .last .1 .0) ≡ wordsIn (input c)
+words-in c = words-written (input c) _ _ _ (omega arith) (length-replicate {A = ℕ} 32768 0) (c .before .before .words-from-bytes .ensures)
 
 array-write-answers : tie.Need-array-write-answers
 array-write-answers c = search needs
@@ -31,7 +35,7 @@ array-share-prefix-words : tie.Need-array-share-prefix-words
 array-share-prefix-words c = search needs
 
 slice-aggregate-answers-on : tie.Need-slice-aggregate-answers-on
-slice-aggregate-answers-on c = sym (ap length (words-in c) ∙ length-words (now (c .before .before .before .before .before .before .args .bytes)))
+slice-aggregate-answers-on c = sym (ap length (words-in c) ∙ length-words (input c))
 
 answers-on-requires : tie.Need-answers-on-requires
 answers-on-requires c κs = (words-in c, omega arith)

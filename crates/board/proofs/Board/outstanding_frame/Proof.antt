@@ -28,10 +28,20 @@ same-length : tie.Need-same-length
 same-length c = search needs
 
 returns : tie.Need-returns
-returns c = fetched (c .before .before .before .before .before .before .before .before .before .before .before .before .before .args .self) (c .before .before .before .before .before .before .before .before .before .before .before .before .before .args .index) _ _ (sym (ap outstandingMeaning (c .before .before .before .before .before .before .before .board .given .1)) ∙ c .before .before .before .before .before .before .before .before .before .outstanding-on .ensures) _ _ _ _ (c .before .before .before .before .step-frame .ensures) (c .before .before .write-frame .ensures)
+returns c =
+    let framed = c .before .before .before .before in
+    let found = framed .before .before .before in
+    let asked = found .before .before in
+    let entry = asked .before .before .before .before in
+    fetched (entry .args .self) (entry .args .index) _ _ (sym (ap outstandingMeaning (found .board .given .1)) ∙ asked .outstanding-on .ensures) _ _ _ _
+    (framed .step-frame .ensures)
+    (c .before .before .write-frame .ensures)
 
 returns-2 : tie.Need-returns-2
-returns-2 c = fetch-refused (c .before .before .before .before .before .before .before .args .self) (c .before .before .before .before .before .before .before .args .index) _ (sym (ap outstandingMeaning (c .before .r .given .1)) ∙ c .before .before .before .outstanding-on .ensures) _
+returns-2 c =
+    let asked = c .before .before .before in
+    let entry = asked .before .before .before .before in
+    fetch-refused (entry .args .self) (entry .args .index) _ (sym (ap outstandingMeaning (c .before .r .given .1)) ∙ asked .outstanding-on .ensures) _
 
 pub outstanding-frame-spec : {M : Type 1} → statement M
 outstanding-frame-spec =

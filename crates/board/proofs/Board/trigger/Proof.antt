@@ -15,7 +15,12 @@ same-length : tie.Need-same-length
 same-length c = search needs
 
 returns : tie.Need-returns
-returns c = record { packet = c .before .before .before .before .trigger .ensures .packet; board = c .with-run .ensures ∙ ap (withRun (c .before .before .before .before .before .before .before .before .args .self)) (c .before .before .before .before .trigger .ensures .run) }
+returns c =
+    let given = c .before .before .before .before in
+    let entry = given .before .before .before .before in record {
+      packet = given .trigger .ensures .packet;
+      board = c .with-run .ensures ∙ ap (withRun (entry .args .self)) (given .trigger .ensures .run);
+    }
 
 pub trigger-spec : {M : Type 1} → statement M
 trigger-spec = tie.close (tie.spec trigger-requires with-run-requires same-length returns)
