@@ -72,8 +72,7 @@ returns-3 c =
     power-up-refused (a .board) (now (a .bytes)) _ (at-length .if1 .left)
     (words-whole (now (a .bytes)) _ _ _ (at-words .words-from-bytes .ensures) (search needs))
     (at-number .number64 .result) (at-number .number64 .ensures) (at-power-up .power-up .result) (at-power-up .power-up .ensures)
-    _ (c .refusal-response .result)
-    (told .answer .given .1) (c .refusal-response .ensures)
+    _ (c .refusal-response .result) (told .answer .given .1) (c .refusal-response .ensures)
 
 pub power-up-order-spec : {M : Type 1} → statement M
 power-up-order-spec =
