@@ -33,7 +33,8 @@ use Rattle.board.specs.declared.Replied.{Replied}
 use Rattle.texts.specs.Texts.{inBytes}
 use Rattle.texts.specs.declared.Response.{Response}
 use Rattle.texts.specs.declared.Response.the-variants.{One}
-use Rattle.exchange.specs.Orders.{Order, powerUp, command, clockStep, trigger, reply, timeUp, otherForm, taking, areFields, fieldsFrom, oneByte, anyWords, replyFrom, powerUpOrder, clockOrder, triggerOrder}
+use Rattle.exchange.specs.Orders.{Order, powerUp, command, clockStep, trigger, reply, timeUp, otherForm, taking}
+use Rattle.exchange.specs.Orders.{areFields, fieldsFrom, oneByte, anyWords, replyFrom, powerUpOrder, clockOrder, triggerOrder}
 use Rattle.exchange.specs.Exchange.{refusalPrinted, plainPrinted, commandPrinted, outcomePrinted, printedAnswer, afterPowerUp, boardAfterOrder}
 use Rattle.exchange.specs.CodeShape.{Prints, PrintsWrittenBytes, Answers, AnswersInBytes}
 use Rattle.exchange.specs.declared.Answered.{Answered}
@@ -74,7 +75,8 @@ power-up-is b w l e =
     ∙ ap (λ (v : List ℕ). powerUp (number 65536 (take 4 v)) (getD v 4 0)) e
     ∙ sym (taken _ _ (eq-eqb _ _ l))
 
-module _ (β : Board) (b w : List ℕ) (l : length b ≡ 10) (e : w ≡ wordsIn b) (id : ℕ) (ei : id ≡ number 65536 (getD w 0 0 ∷ getD w 1 0 ∷ getD w 2 0 ∷ getD w 3 0 ∷ [])) (up : PoweredUp) (h : PowersUp id (getD w 4 0) up) where
+module _ (β : Board) (b w : List ℕ) (l : length b ≡ 10) (e : w ≡ wordsIn b) (id : ℕ)
+    (ei : id ≡ number 65536 (getD w 0 0 ∷ getD w 1 0 ∷ getD w 2 0 ∷ getD w 3 0 ∷ [])) (up : PoweredUp) (h : PowersUp id (getD w 4 0) up) where
   power-up-as : powerUp id (getD w 4 0) ≡ powerUpOrder b
   power-up-as = ap (λ (n : ℕ). powerUp n (getD w 4 0)) ei ∙ power-up-is b w l e
 
@@ -88,7 +90,8 @@ module _ (β : Board) (b w : List ℕ) (l : length b ≡ 10) (e : w ≡ wordsIn 
         board = h .board ∙ ap (λ (x : Answer Unit). boardFor x id (getD w 4 0)) a ∙ sym (ap (afterPowerUp β id (getD w 4 0)) a);
       })
 
-  pub power-up-refused : (r : Refusal) (s : Response) → up .answer ≡ Refused r → Prints s (refusalPrinted (numberOf r) (placeOf r)) → Answers β (powerUpOrder b) (answered s β)
+  pub power-up-refused : (r : Refusal) (s : Response) → up .answer ≡ Refused r → Prints s (refusalPrinted (numberOf r) (placeOf r))
+      → Answers β (powerUpOrder b) (answered s β)
   unfolding printedAnswer boardAfterOrder
   power-up-refused r s q k =
       let a : powerUpAnswer id ≡ refused (numberOf r) (placeOf r) = sym (h .answer) ∙ ap powerUpMeaning q in

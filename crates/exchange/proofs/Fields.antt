@@ -35,6 +35,7 @@ module _ (b : List ℕ) where
   pub eight : (t : Bool) → t ≡ areFields b → t ≡ true → length b ≡ 8
   eight t e h = go (eqb (length b) 8) refl (sym e ∙ h)
     where
-      go : (u : Bool) → eqb (length b) 8 ≡ u → (u && areFlags (getD b 1 0) (getD b 2 0) (getD b 3 0) && areFlags (getD b 5 0) (getD b 6 0) (getD b 7 0)) ≡ true → length b ≡ 8
+      go : (u : Bool) → eqb (length b) 8 ≡ u
+          → (u && areFlags (getD b 1 0) (getD b 2 0) (getD b 3 0) && areFlags (getD b 5 0) (getD b 6 0) (getD b 7 0)) ≡ true → length b ≡ 8
       go true q x = eqb-true _ _ q
       go false q x = absurd (let z : _≡_ {A = ℕ} 0 1 = cc in omega arith)

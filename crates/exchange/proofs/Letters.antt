@@ -12,10 +12,10 @@ use Rattle.words.specs.Words.{wordsIn}
 use Rattle.board.specs.declared.Board.{Board}
 use Rattle.texts.specs.Texts.{Printed, question, responseMeaning}
 use Rattle.texts.specs.declared.Response.{Response}
-use Rattle.exchange.specs.Orders.{Order, otherForm, command, timeUp, outstanding, framesSent, static, ftuList, failure, dynamic, oneByte, noByte, anyWords, replyFrom, powerUpOrder, clockOrder, triggerOrder, Row, found, asking, orderOf}
-use Rattle.exchange.specs.CodeShape.{askedBy}
+use Rattle.exchange.specs.Orders.{Order, otherForm, command, timeUp, outstanding, framesSent, static, ftuList, failure, dynamic}
+use Rattle.exchange.specs.Orders.{oneByte, noByte, anyWords, replyFrom, powerUpOrder, clockOrder, triggerOrder, Row, found, asking, orderOf}
 use Rattle.exchange.specs.Exchange.{printedAnswer, boardAfterOrder}
-use Rattle.exchange.specs.CodeShape.{Answers, AnswersInBytes, AnswersBoth}
+use Rattle.exchange.specs.CodeShape.{askedBy, Answers, AnswersInBytes, AnswersBoth}
 use Rattle.exchange.specs.declared.Answered.{Answered}
 
 module _ (letter : ℕ) (b : List ℕ) where
@@ -70,12 +70,14 @@ module _ (letter : ℕ) (b : List ℕ) where
   orders-T e = rw e
 
   -- ---- other letters
-  only-asked : (letter ≡ 80 → ⊥) → (letter ≡ 67 → ⊥) → (letter ≡ 75 → ⊥) → (letter ≡ 71 → ⊥) → (letter ≡ 82 → ⊥) → (letter ≡ 84 → ⊥) → askedBy letter b ≡ orderOf letter b
+  only-asked : (letter ≡ 80 → ⊥) → (letter ≡ 67 → ⊥) → (letter ≡ 75 → ⊥) → (letter ≡ 71 → ⊥) → (letter ≡ 82 → ⊥) → (letter ≡ 84 → ⊥)
+      → askedBy letter b ≡ orderOf letter b
   unfolding askedBy orderOf
   only-asked p c k g r t = simp (ne-eqb _ _ p, ne-eqb _ _ c, ne-eqb _ _ k, ne-eqb _ _ g, ne-eqb _ _ r, ne-eqb _ _ t)
 
   module _ (β : Board) where
-    pub asks-other : (letter ≡ 70 → ⊥) → (letter ≡ 78 → ⊥) → (letter ≡ 83 → ⊥) → (letter ≡ 76 → ⊥) → (letter ≡ 77 → ⊥) → (letter ≡ 68 → ⊥) → question ≡ printedAnswer β (askedBy letter b)
+    pub asks-other : (letter ≡ 70 → ⊥) → (letter ≡ 78 → ⊥) → (letter ≡ 83 → ⊥) → (letter ≡ 76 → ⊥) → (letter ≡ 77 → ⊥) → (letter ≡ 68 → ⊥)
+        → question ≡ printedAnswer β (askedBy letter b)
     unfolding askedBy printedAnswer
     asks-other f n s l m d = simp (ne-eqb _ _ f, ne-eqb _ _ n, ne-eqb _ _ s, ne-eqb _ _ l, ne-eqb _ _ m, ne-eqb _ _ d)
 

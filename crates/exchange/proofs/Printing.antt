@@ -10,7 +10,10 @@ use denote.Enum.Declared.{tagOf}
 use Rattle.refusals.specs.Refusals.{numberOf, placeOf}
 use Rattle.refusals.specs.Tables.{refused}
 use Rattle.refusals.specs.declared.Refusal.{Refusal}
-use Rattle.refusals.specs.declared.Refusal.the-variants.{TooFewWords, WrongFirstWord, UnknownCommand, UnlistedParameter, SpareWordNotZero, WrongLength, NoEvents, AboveBound, NotAcceptedNow, NotFresh, NoSuchCrate, NothingOutstanding, WrongPacketLength, WrongPacketCrc, TriggerFieldOutOfRange, NotRunning, TriggerCounterAtEnd, NoSuchRecord, OutputTooShort, WrongHeader}
+use Rattle.refusals.specs.declared.Refusal.the-variants.{TooFewWords, WrongFirstWord, UnknownCommand, UnlistedParameter, SpareWordNotZero}
+use Rattle.refusals.specs.declared.Refusal.the-variants.{WrongLength, NoEvents, AboveBound, NotAcceptedNow, NotFresh, NoSuchCrate}
+use Rattle.refusals.specs.declared.Refusal.the-variants.{NothingOutstanding, WrongPacketLength, WrongPacketCrc, TriggerFieldOutOfRange}
+use Rattle.refusals.specs.declared.Refusal.the-variants.{NotRunning, TriggerCounterAtEnd, NoSuchRecord, OutputTooShort, WrongHeader}
 use Rattle.refusals.proofs.Refusal.{the-type}
 use Rattle.texts.specs.Texts.{numbers}
 use Rattle.exchange.specs.Exchange.{refusalPrinted, commandPrinted}

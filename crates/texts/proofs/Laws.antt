@@ -54,7 +54,8 @@ two {a} {b} d at h k =
     }
 
 -- one turn of a loop that stores a list
-pub store-more : (d new : List ℕ) (at i : ℕ) → i < length new → sets (set d (at + i) (getD new i 0)) (at + (i + 1)) (drop (i + 1) new) ≡ sets d (at + i) (drop i new)
+pub store-more : (d new : List ℕ) (at i : ℕ) → i < length new
+    → sets (set d (at + i) (getD new i 0)) (at + (i + 1)) (drop (i + 1) new) ≡ sets d (at + i) (drop i new)
 store-more d new at i h =
     let e : at + (i + 1) ≡ suc (at + i) = omega arith in
     rw (e, add-one, drop-cons new i 0)

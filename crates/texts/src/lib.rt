@@ -4,7 +4,8 @@ ghost use mathlib.Core.List.{[], _∷_};
 ghost use Prim.Native.Nat.{_+_, _≤_, _<_, min};
 ghost use lib.ListN.{length, take};
 ghost use Rattle.texts.specs.Characters.{ascii};
-ghost use Rattle.texts.specs.Texts.{done, served, inBytes, inWords, inFront, hexDigit, hexByte, hexWord, decimal, decimalIn, commandText, doneText, spaced, fieldsOf, textOf, responseMeaning};
+ghost use Rattle.texts.specs.Texts.{hexDigit, hexByte, hexWord, decimal, decimalIn, commandText, doneText};
+ghost use Rattle.texts.specs.Texts.{done, served, inBytes, inWords, spaced, fieldsOf, textOf, responseMeaning, inFront};
 ghost use Rattle.texts.specs.CodeShape.{Appended};
 use commands::BlockKind;
 use commands::Command;
@@ -215,7 +216,9 @@ fn append_fields(
     bytes: &[u8; 28],
     words: &[u16; 498],
 ) -> usize
-    ensures { λ r. ⌜ Appended (now (text .entry)) 0 (spaced (fieldsOf (responseMeaning response (now (bytes .entry)) (now (words .entry))))) 1994 r (now (text .exit)) ⌝ }
+    ensures { λ r.
+        ⌜ Appended (now (text .entry)) 0 (spaced (fieldsOf (responseMeaning response (now (bytes .entry)) (now (words .entry)))))
+        1994 r (now (text .exit)) ⌝ }
 {
     match response {
         Response::Question => append(text, 0, b"?"),

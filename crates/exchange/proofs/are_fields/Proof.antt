@@ -33,10 +33,20 @@ are-flags-requires-2 : tie.Need-are-flags-requires-2
 are-flags-requires-2 c κs = search needs
 
 returns-2 : tie.Need-returns-2
-returns-2 c = first-flags (now (c .before .before .before .before .before .before .before .before .before .before .before .args .b)) (c .before .before .before .before .before .before .before .before .before .if1 .left) (c .before .before .before .before .before .are-flags .result) (c .before .before .before .before .before .are-flags .ensures) (c .before .before .before .before .if2 .taken) (c .are-flags2 .result) (c .are-flags2 .ensures)
+returns-2 c =
+    let tested = c .before .before .before .before in
+    let at-flags = tested .before in
+    let at-length = at-flags .before .before .before .before in
+    let a = at-length .before .before .args in
+    first-flags (now (a .b)) (at-length .if1 .left) (at-flags .are-flags .result) (at-flags .are-flags .ensures) (tested .if2 .taken)
+    (c .are-flags2 .result) (c .are-flags2 .ensures)
 
 returns-3 : tie.Need-returns-3
-returns-3 c = no-flags (now (c .before .before .before .before .before .before .before .args .b)) (c .before .before .before .before .before .if1 .left) (c .before .are-flags .result) (c .before .are-flags .ensures) (c .if2 .left)
+returns-3 c =
+    let at-flags = c .before in
+    let at-length = at-flags .before .before .before .before in
+    let a = at-length .before .before .args in
+    no-flags (now (a .b)) (at-length .if1 .left) (at-flags .are-flags .result) (at-flags .are-flags .ensures) (c .if2 .left)
 
 pub are-fields-spec : {M : Type 1} → statement M
 are-fields-spec =

@@ -32,7 +32,14 @@ clock-requires : tie.Need-clock-requires
 clock-requires c κs = search needs
 
 returns-2 : tie.Need-returns-2
-returns-2 c = let a = c .before .before .before .before .before .before .before .args in clocked (a .board) (now (a .bytes)) _ (c .before .number32 .result) (c .clock .result) (c .before .before .before .before .before .if1 .left) (words-whole (now (a .bytes)) _ _ _ (c .before .before .before .words-from-bytes .ensures) (search needs)) (c .before .number32 .ensures) (c .clock .ensures)
+returns-2 c =
+    let at-number = c .before in
+    let at-words = at-number .before .before in
+    let at-length = at-words .before .before in
+    let a = at-length .before .before .args in
+    clocked (a .board) (now (a .bytes)) _ (at-number .number32 .result) (c .clock .result) (at-length .if1 .left)
+    (words-whole (now (a .bytes)) _ _ _ (at-words .words-from-bytes .ensures) (search needs))
+    (at-number .number32 .ensures) (c .clock .ensures)
 
 pub clock-order-spec : {M : Type 1} → statement M
 clock-order-spec =

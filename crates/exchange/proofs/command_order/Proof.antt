@@ -23,7 +23,10 @@ array-share-prefix-words : tie.Need-array-share-prefix-words
 array-share-prefix-words c = search needs
 
 slice-aggregate-obey : tie.Need-slice-aggregate-obey
-slice-aggregate-obey c = front-length (now (c .before .before .before .before .before .before .args .bytes)) _ _ _ (c .before .before .words-from-bytes .ensures) (search needs)
+slice-aggregate-obey c =
+    let at-words = c .before .before in
+    let a = at-words .before .before .before .before .args in
+    front-length (now (a .bytes)) _ _ _ (at-words .words-from-bytes .ensures) (search needs)
 
 obey-requires : tie.Need-obey-requires
 obey-requires c κs = search needs
@@ -32,7 +35,14 @@ command-response-requires : tie.Need-command-response-requires
 command-response-requires c κs = search needs
 
 returns-2 : tie.Need-returns-2
-returns-2 c = let a = c .before .before .before .before .before .before .before .before .before .args in commanded (a .board) (now (a .bytes)) _ (c .command-response .result) (c .before .before .obey .result) (c .before .before .before .before .before .before .before .if1 .left) (words-front (now (a .bytes)) _ _ _ (c .before .before .before .before .before .words-from-bytes .ensures) (search needs)) (c .before .before .obey .ensures) (c .command-response .ensures)
+returns-2 c =
+    let at-obey = c .before .before in
+    let at-words = at-obey .before .before .before in
+    let at-length = at-words .before .before in
+    let a = at-length .before .before .args in
+    commanded (a .board) (now (a .bytes)) _ (c .command-response .result) (at-obey .obey .result) (at-length .if1 .left)
+    (words-front (now (a .bytes)) _ _ _ (at-words .words-from-bytes .ensures) (search needs))
+    (at-obey .obey .ensures) (c .command-response .ensures)
 
 pub command-order-spec : {M : Type 1} → statement M
 command-order-spec =

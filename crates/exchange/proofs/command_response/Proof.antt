@@ -27,7 +27,9 @@ returns-2 : tie.Need-returns-2
 returns-2 c bytes words = rw (c .before .before .before .before .answer2 .given .1, c .before .r .given .1) refl
 
 returns-3 : tie.Need-returns-3
-returns-3 c bytes words = rw (c .before .before .before .answer2 .given .1) (other-command-response (c .before .before .before .answer2 .given .0 .0) _ (c .number .ensures) (c .before .match2 .keys2) _)
+returns-3 c bytes words =
+    let refused = c .before .before .before .answer2 .given in
+    rw (refused .1) (other-command-response (refused .0 .0) _ (c .number .ensures) (c .before .match2 .keys2) _)
 
 pub command-response-spec : {M : Type 1} → statement M
 command-response-spec =

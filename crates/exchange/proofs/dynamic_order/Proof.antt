@@ -20,7 +20,10 @@ array-share-prefix-words : tie.Need-array-share-prefix-words
 array-share-prefix-words c = search needs
 
 slice-aggregate-dynamic-block : tie.Need-slice-aggregate-dynamic-block
-slice-aggregate-dynamic-block c = front-length (now (c .before .before .before .before .before .before .args .bytes)) _ _ _ (c .before .before .words-from-bytes .ensures) (search needs)
+slice-aggregate-dynamic-block c =
+    let at-words = c .before .before in
+    let a = at-words .before .before .before .before .args in
+    front-length (now (a .bytes)) _ _ _ (at-words .words-from-bytes .ensures) (search needs)
 
 dynamic-block-requires : tie.Need-dynamic-block-requires
 dynamic-block-requires c κs = search needs
@@ -29,7 +32,15 @@ words-response-requires : tie.Need-words-response-requires
 words-response-requires c κs = search needs
 
 returns-2 : tie.Need-returns-2
-returns-2 c = let a = c .before .before .before .before .before .before .before .before .before .args in dynamic-asked (a .board) (now (a .bytes)) (c .words-response .result) _ _ (c .before .dynamic-block .result) (c .before .before .before .before .before .before .before .if1 .left) (search needs) _ (words-front (now (a .bytes)) _ _ _ (c .before .before .before .before .before .words-from-bytes .ensures) (search needs)) (c .before .dynamic-block .ensures) (c .words-response .ensures)
+returns-2 c =
+    let at-block = c .before in
+    let at-words = at-block .before .before .before .before in
+    let at-length = at-words .before .before in
+    let a = at-length .before .before .args in
+    dynamic-asked (a .board) (now (a .bytes)) (c .words-response .result) _ _ (at-block .dynamic-block .result)
+    (at-length .if1 .left) (search needs) _
+    (words-front (now (a .bytes)) _ _ _ (at-words .words-from-bytes .ensures) (search needs))
+    (at-block .dynamic-block .ensures) (c .words-response .ensures)
 
 pub dynamic-order-spec : {M : Type 1} → statement M
 dynamic-order-spec =

@@ -23,7 +23,12 @@ words-response-requires : tie.Need-words-response-requires
 words-response-requires c κs = search needs
 
 returns-2 : tie.Need-returns-2
-returns-2 c = let a = c .before .before .before .before .before .before .args in failure-asked (a .board) (now (a .bytes)) (c .words-response .result) _ _ (c .before .failure-message .result) (c .before .before .before .before .if1 .left) (search needs) (c .before .failure-message .ensures) (c .words-response .ensures)
+returns-2 c =
+    let at-message = c .before in
+    let at-length = at-message .before .before .before in
+    let a = at-length .before .before .args in
+    failure-asked (a .board) (now (a .bytes)) (c .words-response .result) _ _ (at-message .failure-message .result) (at-length .if1 .left) (search needs)
+    (at-message .failure-message .ensures) (c .words-response .ensures)
 
 pub failure-order-spec : {M : Type 1} → statement M
 failure-order-spec =

@@ -19,7 +19,12 @@ bytes-response-requires : tie.Need-bytes-response-requires
 bytes-response-requires c κs = search needs
 
 returns-2 : tie.Need-returns-2
-returns-2 c = let a = c .before .before .before .before .before .before .args in frame-asked (a .board) (now (a .bytes)) (c .bytes-response .result) _ _ (c .before .outstanding-frame .result) (c .before .before .before .before .if1 .left) (search needs) (c .before .outstanding-frame .ensures) (c .bytes-response .ensures)
+returns-2 c =
+    let at-frame = c .before in
+    let at-length = at-frame .before .before .before in
+    let a = at-length .before .before .args in
+    frame-asked (a .board) (now (a .bytes)) (c .bytes-response .result) _ _ (at-frame .outstanding-frame .result) (at-length .if1 .left) (search needs)
+    (at-frame .outstanding-frame .ensures) (c .bytes-response .ensures)
 
 pub frame-order-spec : {M : Type 1} → statement M
 frame-order-spec =

@@ -30,10 +30,22 @@ refusal-response-requires : tie.Need-refusal-response-requires
 refusal-response-requires c κs = search needs
 
 returns-2 : tie.Need-returns-2
-returns-2 c = let a = c .before .before .before .before .before .before .before .args in sent-asked (a .board) (now (a .bytes)) (Two 0 _) (c .before .before .before .before .before .if1 .left) (c .before .before .before .frames-sent .result) (c .before .before .before .frames-sent .ensures) (λ bytes words. rw (c .before .n .given .1) refl)
+returns-2 c =
+    let told = c .before in
+    let at-sent = told .before .before in
+    let at-length = at-sent .before .before in
+    let a = at-length .before .before .args in
+    sent-asked (a .board) (now (a .bytes)) (Two 0 _) (at-length .if1 .left) (at-sent .frames-sent .result) (at-sent .frames-sent .ensures)
+    (λ bytes words. rw (told .n .given .1) refl)
 
 returns-3 : tie.Need-returns-3
-returns-3 c = let a = c .before .before .before .before .before .before .before .before .args in sent-asked (a .board) (now (a .bytes)) (c .refusal-response .result) (c .before .before .before .before .before .before .if1 .left) (c .before .before .before .before .frames-sent .result) (c .before .before .before .before .frames-sent .ensures) (λ bytes words. rw (c .before .before .r .given .1) (c .refusal-response .ensures bytes words))
+returns-3 c =
+    let told = c .before .before in
+    let at-sent = told .before .before in
+    let at-length = at-sent .before .before in
+    let a = at-length .before .before .args in
+    sent-asked (a .board) (now (a .bytes)) (c .refusal-response .result) (at-length .if1 .left) (at-sent .frames-sent .result) (at-sent .frames-sent .ensures)
+    (λ bytes words. rw (told .r .given .1) (c .refusal-response .ensures bytes words))
 
 pub frames-sent-order-spec : {M : Type 1} → statement M
 frames-sent-order-spec =

@@ -16,7 +16,12 @@ words-response-requires : tie.Need-words-response-requires
 words-response-requires c κs = search needs
 
 returns-2 : tie.Need-returns-2
-returns-2 c = let a = c .before .before .before .before .before .args in list-asked (a .board) (now (a .bytes)) (c .words-response .result) _ _ (c .before .ftu-list .result) (c .before .before .before .if1 .left) (search needs) (c .before .ftu-list .ensures) (c .words-response .ensures)
+returns-2 c =
+    let at-list = c .before in
+    let at-length = at-list .before .before in
+    let a = at-length .before .before .args in
+    list-asked (a .board) (now (a .bytes)) (c .words-response .result) _ _ (at-list .ftu-list .result) (at-length .if1 .left) (search needs)
+    (at-list .ftu-list .ensures) (c .words-response .ensures)
 
 pub list-order-spec : {M : Type 1} → statement M
 list-order-spec = tie.close (tie.spec returns ftu-list-requires words-response-requires returns-2)

@@ -50,10 +50,29 @@ refusal-response-requires : tie.Need-refusal-response-requires
 refusal-response-requires c κs = search needs
 
 returns-2 : tie.Need-returns-2
-returns-2 c = let a = c .before .before .before .before .before .before .before .before .before .before .args in powered-up (a .board) (now (a .bytes)) _ (c .before .before .before .before .before .before .before .before .if1 .left) (words-whole (now (a .bytes)) _ _ _ (c .before .before .before .before .before .before .words-from-bytes .ensures) (search needs)) (c .before .before .before .before .number64 .result) (c .before .before .before .before .number64 .ensures) (c .before .before .before .power-up .result) (c .before .before .before .power-up .ensures) (c .enum-told .given .1)
+returns-2 c =
+    let at-power-up = c .before .before .before in
+    let at-number = at-power-up .before in
+    let at-words = at-number .before .before in
+    let at-length = at-words .before .before in
+    let a = at-length .before .before .args in
+    powered-up (a .board) (now (a .bytes)) _ (at-length .if1 .left)
+    (words-whole (now (a .bytes)) _ _ _ (at-words .words-from-bytes .ensures) (search needs))
+    (at-number .number64 .result) (at-number .number64 .ensures) (at-power-up .power-up .result) (at-power-up .power-up .ensures)
+    (c .enum-told .given .1)
 
 returns-3 : tie.Need-returns-3
-returns-3 c = let a = c .before .before .before .before .before .before .before .before .before .before .before .before .args in power-up-refused (a .board) (now (a .bytes)) _ (c .before .before .before .before .before .before .before .before .before .before .if1 .left) (words-whole (now (a .bytes)) _ _ _ (c .before .before .before .before .before .before .before .before .words-from-bytes .ensures) (search needs)) (c .before .before .before .before .before .before .number64 .result) (c .before .before .before .before .before .before .number64 .ensures) (c .before .before .before .before .before .power-up .result) (c .before .before .before .before .before .power-up .ensures) _ (c .refusal-response .result) (c .before .before .answer .given .1) (c .refusal-response .ensures)
+returns-3 c =
+    let told = c .before .before in
+    let at-power-up = told .before .before .before in
+    let at-number = at-power-up .before in
+    let at-words = at-number .before .before in
+    let at-length = at-words .before .before in
+    let a = at-length .before .before .args in
+    power-up-refused (a .board) (now (a .bytes)) _ (at-length .if1 .left)
+    (words-whole (now (a .bytes)) _ _ _ (at-words .words-from-bytes .ensures) (search needs))
+    (at-number .number64 .result) (at-number .number64 .ensures) (at-power-up .power-up .result) (at-power-up .power-up .ensures)
+    _ (c .refusal-response .result) (told .answer .given .1) (c .refusal-response .ensures)
 
 pub power-up-order-spec : {M : Type 1} → statement M
 power-up-order-spec =

@@ -31,7 +31,12 @@ outcome-response-requires : tie.Need-outcome-response-requires
 outcome-response-requires c κs = search needs
 
 returns-2 : tie.Need-returns-2
-returns-2 c = let a = c .before .before .before .before .before .before .before .args in replied (a .board) (c .outcome-response .result) (c .before .before .reply .result) (c .outcome-response .ensures) (now (a .bytes)) _ (c .before .before .before .before .before .if1 .left) (part-rest (now (a .bytes)) 1) (c .before .before .reply .ensures)
+returns-2 c =
+    let at-reply = c .before .before in
+    let at-length = at-reply .before .before .before in
+    let a = at-length .before .before .args in
+    replied (a .board) (c .outcome-response .result) (at-reply .reply .result) (c .outcome-response .ensures)
+    (now (a .bytes)) _ (at-length .if1 .left) (part-rest (now (a .bytes)) 1) (at-reply .reply .ensures)
 
 pub reply-order-spec : {M : Type 1} → statement M
 reply-order-spec =

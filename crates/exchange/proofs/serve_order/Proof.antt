@@ -27,25 +27,48 @@ ask-requires : tie.Need-ask-requires
 ask-requires c κs = search needs
 
 returns : tie.Need-returns
-returns c = let a = c .before .before .before .args in ordered-as (a .board) _ _ (orders-P (a .letter) (now (a .bytes)) (c .before .match .keys1)) _ _ _ (c .power-up-order .ensures)
+returns c =
+    let at-letter = c .before in
+    let a = at-letter .before .before .args in
+    ordered-as (a .board) _ _ (orders-P (a .letter) (now (a .bytes)) (at-letter .match .keys1)) _ _ _ (c .power-up-order .ensures)
 
 returns-2 : tie.Need-returns-2
-returns-2 c = let a = c .before .before .before .args in ordered-as (a .board) _ _ (orders-C (a .letter) (now (a .bytes)) (c .before .match .keys2)) _ _ _ (c .command-order .ensures)
+returns-2 c =
+    let at-letter = c .before in
+    let a = at-letter .before .before .args in
+    ordered-as (a .board) _ _ (orders-C (a .letter) (now (a .bytes)) (at-letter .match .keys2)) _ _ _ (c .command-order .ensures)
 
 returns-3 : tie.Need-returns-3
-returns-3 c = let a = c .before .before .before .args in ordered-as (a .board) _ _ (orders-K (a .letter) (now (a .bytes)) (c .before .match .keys3)) _ _ _ (c .clock-order .ensures)
+returns-3 c =
+    let at-letter = c .before in
+    let a = at-letter .before .before .args in
+    ordered-as (a .board) _ _ (orders-K (a .letter) (now (a .bytes)) (at-letter .match .keys3)) _ _ _ (c .clock-order .ensures)
 
 returns-4 : tie.Need-returns-4
-returns-4 c = let a = c .before .before .before .before .args in ordered-in-bytes-as (a .board) _ _ (orders-G (a .letter) (now (a .bytes)) (c .before .before .match .keys4)) _ _ _ (c .trigger-order .ensures)
+returns-4 c =
+    let at-letter = c .before .before in
+    let a = at-letter .before .before .args in
+    ordered-in-bytes-as (a .board) _ _ (orders-G (a .letter) (now (a .bytes)) (at-letter .match .keys4)) _ _ _ (c .trigger-order .ensures)
 
 returns-5 : tie.Need-returns-5
-returns-5 c = let a = c .before .before .before .args in ordered-as (a .board) _ _ (orders-R (a .letter) (now (a .bytes)) (c .before .match .keys5)) _ _ _ (c .reply-order .ensures)
+returns-5 c =
+    let at-letter = c .before in
+    let a = at-letter .before .before .args in
+    ordered-as (a .board) _ _ (orders-R (a .letter) (now (a .bytes)) (at-letter .match .keys5)) _ _ _ (c .reply-order .ensures)
 
 returns-6 : tie.Need-returns-6
-returns-6 c = let a = c .before .before .before .args in ordered-as (a .board) _ _ (orders-T (a .letter) (now (a .bytes)) (c .before .match .keys6)) _ _ _ (c .time-up-order .ensures)
+returns-6 c =
+    let at-letter = c .before in
+    let a = at-letter .before .before .args in
+    ordered-as (a .board) _ _ (orders-T (a .letter) (now (a .bytes)) (at-letter .match .keys6)) _ _ _ (c .time-up-order .ensures)
 
 returns-7 : tie.Need-returns-7
-returns-7 c = let a = c .before .before .before .before .before .args in orders-other (a .letter) (now (a .bytes)) (a .board) (c .before .before .before .match .rest .0 .0 .0 .0 .0 .1) (c .before .before .before .match .rest .0 .0 .0 .0 .1) (c .before .before .before .match .rest .0 .0 .0 .1) (c .before .before .before .match .rest .0 .0 .1) (c .before .before .before .match .rest .0 .1) (c .before .before .before .match .rest .1) (c .ask .result) _ _ (c .ask .ensures)
+returns-7 c =
+    let at-letter = c .before .before .before in
+    let a = at-letter .before .before .args in
+    let other = at-letter .match .rest in
+    orders-other (a .letter) (now (a .bytes)) (a .board) (other .0 .0 .0 .0 .0 .1) (other .0 .0 .0 .0 .1)
+    (other .0 .0 .0 .1) (other .0 .0 .1) (other .0 .1) (other .1) (c .ask .result) _ _ (c .ask .ensures)
 
 pub serve-order-spec : {M : Type 1} → statement M
 serve-order-spec =

@@ -21,7 +21,10 @@ question-requires-2 : tie.Need-question-requires-2
 question-requires-2 c κs = search needs
 
 returns-2 : tie.Need-returns-2
-returns-2 c = as-line _ _ _ _ _ _ (odd (c .before .before .before .before .before .args .reading) _ (c .before .before .if2 .taken)) (c .question2 .ensures)
+returns-2 c =
+    let tested = c .before .before in
+    let a = tested .before .before .before .args in
+    as-line _ _ _ _ _ _ (odd (a .reading) _ (tested .if2 .taken)) (c .question2 .ensures)
 
 lesser-requires : tie.Need-lesser-requires
 lesser-requires c κs = search needs
@@ -37,9 +40,14 @@ write-response-requires c κs = search needs
 
 returns-3 : tie.Need-returns-3
 returns-3 c =
-    as-line _ _ _ _ _ _
-    (is-order (c .before .before .before .before .before .before .before .before .before .before .before .before .before .args .reading) _ _ (c .before .before .before .before .before .before .before .before .before .before .before .if1 .left) (c .before .before .before .before .before .before .before .before .before .before .if2 .left) (c .before .before .before .before .before .before .before .before .before .lesser .ensures))
-    (ordered _ _ _ _ _ _ _ _ _ (c .before .before .before .before .before .serve-order .ensures) (c .write-response .ensures .0) (c .write-response .ensures .1))
+    let at-next = c .before .before .before .before in
+    let at-serve = at-next .before in
+    let at-lesser = at-serve .before .before .before .before in
+    let at-even = at-lesser .before in
+    let at-length = at-even .before in
+    let a = at-length .before .before .args in
+    as-line _ _ _ _ _ _ (is-order (a .reading) _ _ (at-length .if1 .left) (at-even .if2 .left) (at-lesser .lesser .ensures))
+    (ordered _ _ _ _ _ _ _ _ _ (at-serve .serve-order .ensures) (c .write-response .ensures .0) (c .write-response .ensures .1))
 
 pub serve-read-spec : {M : Type 1} → statement M
 serve-read-spec =

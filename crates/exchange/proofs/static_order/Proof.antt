@@ -16,7 +16,12 @@ words-response-requires : tie.Need-words-response-requires
 words-response-requires c κs = search needs
 
 returns-2 : tie.Need-returns-2
-returns-2 c = let a = c .before .before .before .before .before .args in static-asked (a .board) (now (a .bytes)) (c .words-response .result) _ _ (c .before .static-block .result) (c .before .before .before .if1 .left) (search needs) (search needs) (c .before .static-block .ensures) (c .words-response .ensures)
+returns-2 c =
+    let at-block = c .before in
+    let at-length = at-block .before .before in
+    let a = at-length .before .before .args in
+    static-asked (a .board) (now (a .bytes)) (c .words-response .result) _ _ (at-block .static-block .result) (at-length .if1 .left)
+    (search needs) (search needs) (at-block .static-block .ensures) (c .words-response .ensures)
 
 pub static-order-spec : {M : Type 1} → statement M
 static-order-spec =

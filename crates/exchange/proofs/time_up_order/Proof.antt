@@ -22,7 +22,12 @@ outcome-response-requires : tie.Need-outcome-response-requires
 outcome-response-requires c κs = search needs
 
 returns-2 : tie.Need-returns-2
-returns-2 c = let a = c .before .before .before .before .before .before .args in timed-up (a .board) (c .outcome-response .result) (c .before .before .time-up .result) (c .outcome-response .ensures) (now (a .bytes)) (c .before .before .before .before .if1 .left) (c .before .before .time-up .ensures)
+returns-2 c =
+    let at-time-up = c .before .before in
+    let at-length = at-time-up .before .before in
+    let a = at-length .before .before .args in
+    timed-up (a .board) (c .outcome-response .result) (at-time-up .time-up .result) (c .outcome-response .ensures)
+    (now (a .bytes)) (at-length .if1 .left) (at-time-up .time-up .ensures)
 
 pub time-up-order-spec : {M : Type 1} → statement M
 time-up-order-spec =

@@ -10,7 +10,10 @@ are-fields-requires : tie.Need-are-fields-requires
 are-fields-requires c κs = search needs
 
 fields-from-requires : tie.Need-fields-from-requires
-fields-from-requires c κs = eight (now (c .before .before .before .args .bytes)) (c .before .are-fields .result) (c .before .are-fields .ensures) (c .if1 .taken)
+fields-from-requires c κs =
+    let judged = c .before in
+    let a = judged .before .before .args in
+    eight (now (a .bytes)) (judged .are-fields .result) (judged .are-fields .ensures) (c .if1 .taken)
 
 trigger-requires : tie.Need-trigger-requires
 trigger-requires c κs = search needs
@@ -19,13 +22,26 @@ bytes-response-requires : tie.Need-bytes-response-requires
 bytes-response-requires c κs = search needs
 
 returns : tie.Need-returns
-returns c = let a = c .before .before .before .before .before .before .before .before .args in triggered (a .board) (now (a .bytes)) _ _ (c .bytes-response .result) (c .before .before .before .before .before .before .are-fields .result) (c .before .before .before .before .fields-from .result) (c .before .before .trigger .result) (c .before .before .before .before .before .before .are-fields .ensures) (c .before .before .before .before .before .if1 .taken) (c .before .before .before .before .fields-from .ensures) (search needs) (c .before .before .trigger .ensures) (c .bytes-response .ensures)
+returns c =
+    let at-trigger = c .before .before in
+    let at-fields = at-trigger .before .before in
+    let tested = at-fields .before in
+    let judged = tested .before in
+    let a = judged .before .before .args in
+    triggered (a .board) (now (a .bytes)) _ _ (c .bytes-response .result) (judged .are-fields .result)
+    (at-fields .fields-from .result) (at-trigger .trigger .result) (judged .are-fields .ensures) (tested .if1 .taken)
+    (at-fields .fields-from .ensures) (search needs) (at-trigger .trigger .ensures) (c .bytes-response .ensures)
 
 other-form-requires : tie.Need-other-form-requires
 other-form-requires c κs = search needs
 
 returns-2 : tie.Need-returns-2
-returns-2 c = let a = c .before .before .before .before .args in no-trigger (a .board) _ (c .other-form .ensures) (now (a .bytes)) _ (c .before .before .are-fields .result) (c .before .before .are-fields .ensures) (c .before .if1 .left)
+returns-2 c =
+    let tested = c .before in
+    let judged = tested .before in
+    let a = judged .before .before .args in
+    no-trigger (a .board) _ (c .other-form .ensures) (now (a .bytes)) _
+    (judged .are-fields .result) (judged .are-fields .ensures) (tested .if1 .left)
 
 pub trigger-order-spec : {M : Type 1} → statement M
 trigger-order-spec =

@@ -41,16 +41,20 @@ loop-less : tie.Need-loop-less Inv-loop μ-loop
 loop-less c = search needs
 
 loop-again : tie.Need-loop-again Inv-loop μ-loop
-loop-again c = (
-  search needs,
-  joined-more hexByte (now (c .before .before .before .before .before .before .before .before .before .before .args .bytes)) (omega arith) (omega arith) (c .before .before .before .before .loop .inv .1) (c .append-hex-byte .ensures),
-)
+loop-again c =
+    let at-loop = c .before .before .before .before in
+    let at-lesser = at-loop .before .before .before .before in
+    let a = at-lesser .before .before .args in
+    (search needs, joined-more hexByte (now (a .bytes)) (omega arith) (omega arith) (at-loop .loop .inv .1) (c .append-hex-byte .ensures))
 
 returns : tie.Need-returns Inv-loop μ-loop
 returns c =
-    let a = c .before .before .before .before .before .before .before .args in
-    let l = c .before .loop in
-    both {n = 56} (c .before .before .append .ensures) (joined-all hexByte (now (a .bytes)) {i = l .i} (a .count) (omega arith) (omega arith) (l .inv .1))
+    let at-loop = c .before in
+    let at-lesser = at-loop .before .before .before .before in
+    let a = at-lesser .before .before .args in
+    let l = at-loop .loop in
+    both {n = 56} (at-loop .before .append .ensures)
+    (joined-all hexByte (now (a .bytes)) {i = l .i} (a .count) (omega arith) (omega arith) (l .inv .1))
 
 pub append-bytes-spec : {M : Type 1} → statement M
 append-bytes-spec =

@@ -81,10 +81,16 @@ append-decimal-requires : tie.Need-append-decimal-requires
 append-decimal-requires c κs = omega arith
 
 returns : tie.Need-returns
-returns c = within (ap commandText (c .before .before .before .before .before .before .command .given .1) ∙ ap blockText (c .before .before .before .enum-told .given .1)) (lit≤ tt) (c .append .ensures)
+returns c =
+    let kind-told = c .before .before .before in
+    let told = kind-told .before .before .before in
+    within (ap commandText (told .command .given .1) ∙ ap blockText (kind-told .enum-told .given .1)) (lit≤ tt) (c .append .ensures)
 
 returns-2 : tie.Need-returns-2
-returns-2 c = within (ap commandText (c .before .before .before .before .before .before .command .given .1) ∙ ap blockText (c .before .before .before .enum-told2 .given .1)) (lit≤ tt) (c .append2 .ensures)
+returns-2 c =
+    let kind-told = c .before .before .before in
+    let told = kind-told .before .before .before in
+    within (ap commandText (told .command .given .1) ∙ ap blockText (kind-told .enum-told2 .given .1)) (lit≤ tt) (c .append2 .ensures)
 
 returns-3 : tie.Need-returns-3
 returns-3 c = within (ap commandText (c .before .before .before .enum-told3 .given .1)) (lit≤ tt) (c .append3 .ensures)
@@ -99,7 +105,10 @@ returns-6 : tie.Need-returns-6
 returns-6 c = within (ap commandText (c .before .before .before .enum-told6 .given .1)) (lit≤ tt) (c .append6 .ensures)
 
 returns-7 : tie.Need-returns-7
-returns-7 c = within (ap commandText (c .before .before .before .before .before .before .command2 .given .1)) (lit≤ tt) (both (c .before .before .append7 .ensures) (c .append-decimal .ensures))
+returns-7 c =
+    let at-append = c .before .before in
+    let told = at-append .before .before .before .before in
+    within (ap commandText (told .command2 .given .1)) (lit≤ tt) (both (at-append .append7 .ensures) (c .append-decimal .ensures))
 
 pub append-command-spec : {M : Type 1} → statement M
 append-command-spec =

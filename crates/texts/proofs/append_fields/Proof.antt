@@ -14,7 +14,8 @@ use Rattle.texts.proofs.append_fields.Tie as tie
 
 -- what was appended is what is printed
 shown : {d e : List ℕ} {s t : Response} {m next : ℕ} (bytes words : List ℕ) → s ≡ t → m ≤ 1994
-    → Appended d 0 (spaced (fieldsOf (responseMeaning t bytes words))) m next e → Appended d 0 (spaced (fieldsOf (responseMeaning s bytes words))) 1994 next e
+    → Appended d 0 (spaced (fieldsOf (responseMeaning t bytes words))) m next e
+    → Appended d 0 (spaced (fieldsOf (responseMeaning s bytes words))) 1994 next e
 shown bytes words h k p = within (ap (λ (s : Response). spaced (fieldsOf (responseMeaning s bytes words))) h) k p
 
 enum-told : tie.Need-enum-told
@@ -69,28 +70,52 @@ append-words-requires : tie.Need-append-words-requires
 append-words-requires c κs = search needs
 
 returns : tie.Need-returns
-returns c = shown (now (c .before .before .before .before .before .args .bytes)) (now (c .before .before .before .before .before .args .words)) (c .before .before .before .enum-told .given .1) (omega arith) (c .append .ensures)
+returns c =
+    let told = c .before .before .before in
+    let a = told .before .before .args in
+    shown (now (a .bytes)) (now (a .words)) (told .enum-told .given .1) (omega arith) (c .append .ensures)
 
 returns-2 : tie.Need-returns-2
-returns-2 c = shown (now (c .before .before .before .before .before .args .bytes)) (now (c .before .before .before .before .before .args .words)) (c .before .before .before .response .given .1) (omega arith) (c .append-decimal .ensures)
+returns-2 c =
+    let told = c .before .before .before in
+    let a = told .before .before .args in
+    shown (now (a .bytes)) (now (a .words)) (told .response .given .1) (omega arith) (c .append-decimal .ensures)
 
 returns-3 : tie.Need-returns-3
-returns-3 c = shown (now (c .before .before .before .before .before .args .bytes)) (now (c .before .before .before .before .before .args .words)) (c .before .before .before .response2 .given .1) (omega arith) (c .append-two .ensures)
+returns-3 c =
+    let told = c .before .before .before in
+    let a = told .before .before .args in
+    shown (now (a .bytes)) (now (a .words)) (told .response2 .given .1) (omega arith) (c .append-two .ensures)
 
 returns-4 : tie.Need-returns-4
-returns-4 c = shown (now (c .before .before .before .before .before .args .bytes)) (now (c .before .before .before .before .before .args .words)) (c .before .before .before .response3 .given .1) (omega arith) (c .append-three .ensures)
+returns-4 c =
+    let told = c .before .before .before in
+    let a = told .before .before .args in
+    shown (now (a .bytes)) (now (a .words)) (told .response3 .given .1) (omega arith) (c .append-three .ensures)
 
 returns-5 : tie.Need-returns-5
-returns-5 c = shown (now (c .before .before .before .before .before .args .bytes)) (now (c .before .before .before .before .before .args .words)) (c .before .before .before .response4 .given .1) (omega arith) (c .append-obeyed .ensures)
+returns-5 c =
+    let told = c .before .before .before in
+    let a = told .before .before .args in
+    shown (now (a .bytes)) (now (a .words)) (told .response4 .given .1) (omega arith) (c .append-obeyed .ensures)
 
 returns-6 : tie.Need-returns-6
-returns-6 c = shown (now (c .before .before .before .before .before .args .bytes)) (now (c .before .before .before .before .before .args .words)) (c .before .before .before .response5 .given .1) (omega arith) (c .append-served .ensures)
+returns-6 c =
+    let told = c .before .before .before in
+    let a = told .before .before .args in
+    shown (now (a .bytes)) (now (a .words)) (told .response5 .given .1) (omega arith) (c .append-served .ensures)
 
 returns-7 : tie.Need-returns-7
-returns-7 c = shown (now (c .before .before .before .before .before .before .args .bytes)) (now (c .before .before .before .before .before .before .args .words)) (c .before .before .before .before .response6 .given .1) (omega arith) (c .append-bytes .ensures)
+returns-7 c =
+    let told = c .before .before .before .before in
+    let a = told .before .before .args in
+    shown (now (a .bytes)) (now (a .words)) (told .response6 .given .1) (omega arith) (c .append-bytes .ensures)
 
 returns-8 : tie.Need-returns-8
-returns-8 c = shown (now (c .before .before .before .before .before .before .args .bytes)) (now (c .before .before .before .before .before .before .args .words)) (c .before .before .before .before .response7 .given .1) (omega arith) (c .append-words .ensures)
+returns-8 c =
+    let told = c .before .before .before .before in
+    let a = told .before .before .args in
+    shown (now (a .bytes)) (now (a .words)) (told .response7 .given .1) (omega arith) (c .append-words .ensures)
 
 pub append-fields-spec : {M : Type 1} → statement M
 append-fields-spec =

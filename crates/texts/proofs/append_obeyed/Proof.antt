@@ -23,7 +23,10 @@ append-command-requires : tie.Need-append-command-requires
 append-command-requires c κs = search needs
 
 returns : tie.Need-returns
-returns c = both (c .before .before .before .before .append .ensures) (both (both (c .before .before .append-decimal .ensures) (one _ _ _)) (c .append-command .ensures))
+returns c =
+    let at-used = c .before .before in
+    let at-append = at-used .before .before in
+    both (at-append .append .ensures) (both (both (at-used .append-decimal .ensures) (one _ _ _)) (c .append-command .ensures))
 
 pub append-obeyed-spec : {M : Type 1} → statement M
 append-obeyed-spec =

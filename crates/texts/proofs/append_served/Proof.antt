@@ -47,13 +47,25 @@ append-done-requires-3 : tie.Need-append-done-requires-3
 append-done-requires-3 c κs = search needs
 
 returns : tie.Need-returns
-returns c = within (ap (λ (o : Outcome). ascii "0 " ++ outcomeText o) (c .before .before .before .before .before .before .outcome .given .1)) (omega arith) (both (c .before .before .append .ensures) (c .append-done .ensures))
+returns c =
+    let at-append = c .before .before in
+    let told = at-append .before .before .before .before in
+    within (ap (λ (o : Outcome). ascii "0 " ++ outcomeText o) (told .outcome .given .1)) (omega arith)
+    (both (at-append .append .ensures) (c .append-done .ensures))
 
 returns-2 : tie.Need-returns-2
-returns-2 c = within (ap (λ (o : Outcome). ascii "0 " ++ outcomeText o) (c .before .before .before .before .before .before .outcome2 .given .1)) (omega arith) (both (c .before .before .append2 .ensures) (c .append-done2 .ensures))
+returns-2 c =
+    let at-append = c .before .before in
+    let told = at-append .before .before .before .before in
+    within (ap (λ (o : Outcome). ascii "0 " ++ outcomeText o) (told .outcome2 .given .1)) (omega arith)
+    (both (at-append .append2 .ensures) (c .append-done2 .ensures))
 
 returns-3 : tie.Need-returns-3
-returns-3 c = within (ap (λ (o : Outcome). ascii "0 " ++ outcomeText o) (c .before .before .before .before .before .before .outcome3 .given .1)) (omega arith) (both (c .before .before .append3 .ensures) (c .append-done3 .ensures))
+returns-3 c =
+    let at-append = c .before .before in
+    let told = at-append .before .before .before .before in
+    within (ap (λ (o : Outcome). ascii "0 " ++ outcomeText o) (told .outcome3 .given .1)) (omega arith)
+    (both (at-append .append3 .ensures) (c .append-done3 .ensures))
 
 pub append-served-spec : {M : Type 1} → statement M
 append-served-spec =
