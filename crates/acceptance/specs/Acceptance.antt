@@ -1,7 +1,7 @@
 -- 01, Command words: the column "accepted when", and the refusals 9 and 10.
 use Prim.Native.Nat.{ℕ}
 use mathlib.Core.Path.{_≡_}
-use mathlib.Core.Bool.{Bool, false, not}
+use mathlib.Core.Bool.{Bool, false, not, _&&_}
 use mathlib.Core.List.{List, [], _∷_, _++_}
 use Rattle.refusals.specs.Tables.{Answer, given, Rule, rule, lowest, refusalMeaning}
 use Rattle.commands.specs.declared.Command.{Command}
@@ -21,11 +21,11 @@ notNow Stop s = not (s .running)
 notNow Ping s = not (s .idle)
 notNow (CrateReset c) s = not (s .idle)
 
--- "start without fresh"
+-- "idle, start without fresh"
 abbrev pub notFresh : Command → Status → Bool
 notFresh (Read kind) s = false
 notFresh Write s = false
-notFresh (Start run) s = not (s .fresh)
+notFresh (Start run) s = s .idle && not (s .fresh)
 notFresh Stop s = false
 notFresh Ping s = false
 notFresh (CrateReset c) s = false

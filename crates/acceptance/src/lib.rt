@@ -40,14 +40,14 @@ fn not_now(c: Command, s: Status) -> bool
     }
 }
 
-// Whether a command is a start without fresh.
+// Whether the board is idle and the command a start without fresh.
 fn not_fresh(c: Command, s: Status) -> bool
     ensures { λ r. ⌜ r ≡ notFresh c s ⌝ }
 {
     match c {
         Command::Read(_) => false,
         Command::Write => false,
-        Command::Start(_) => !s.fresh,
+        Command::Start(_) => s.idle && !s.fresh,
         Command::Stop => false,
         Command::Ping => false,
         Command::CrateReset(_) => false,
