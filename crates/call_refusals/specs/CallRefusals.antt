@@ -25,4 +25,4 @@ packetsRefusal n room = lowerOf (leftOver 7 n) (noRoom 1 room)
 
 -- what refuses `count` triggers, to which 7 times as many bytes are due: a command before them, or 19 for their packets or for their number
 abbrev pub triggersRefusal : ℕ → ℕ → ℕ → ℕ → ℕ
-triggersRefusal command count bytes room = lowerOf (lowerOf command (noRoom (7 * count) bytes)) (noRoom 1 room)
+triggersRefusal command count packets number = lowerOf (lowerOf command (noRoom (7 * count) packets)) (noRoom 1 number)

@@ -39,7 +39,7 @@ pub fn pass_refusal(command: u8, length: usize, room: usize) -> u8
     lower_of(own, no_room(1, room))
 }
 
-// What refuses the reading of packets: some that is not of seven bytes, or no room for the count.
+// What refuses the reading of packets: bytes that are not of seven each, or no room for the count.
 pub fn packets_refusal(length: usize, room: usize) -> u8
     ensures { λ r. ⌜ r ≡ packetsRefusal length room ⌝ }
 {

@@ -28,7 +28,7 @@ fn good_count(answer: ReplyAnswer) -> u64
     }
 }
 
-// How many of the items get a good answer.
+// How many replies of the items are good, on the crates alone.
 pub fn good_replies(first: [Crate; 4], block: &[u16], kind: PassKind, items: &[u8]) -> u64
     ensures { λ r. ⌜ CountsGood (now (block .entry)) kind first (now (items .entry)) r ⌝ }
 {

@@ -6,8 +6,7 @@ use mathlib.Core.Path.{_≡_, _∙_}
 use lib.ListN.{drop}
 use Rattle.reply_series.proofs.Replies.{reply-start, turn-none, turn-served, reply-end}
 use Rattle.board.specs.declared.Board.{Board}
-use Rattle.reply_series.specs.Series.{goodOf}
-use Rattle.reply_series.specs.Series.{withPass}
+use Rattle.reply_series.specs.Series.{goodOf, withPass}
 use borrow.Author.Needs.{needs}
 use native.Mathlib.Omega.{arith}
 use Rattle.reply_series.proofs.good_replies.Statement.{statement}
