@@ -11,8 +11,8 @@ use Rattle.words.proofs.Laws.{copy-more}
 use Rattle.run.specs.Run.{clockedRun}
 use Rattle.board.specs.State.{withRun}
 use Rattle.board.specs.declared.Board.{Board}
+use Rattle.command_series.proofs.Parts.{next-of}
 use Rattle.exports.specs.Exports.{clockedAll, timestampsOf, stepsOf}
-use Rattle.exports.proofs.Packets.{next-of}
 
 abbrev stepped : Board → ℕ → Board
 stepped β t = withRun β (clockedRun (β .run) t)

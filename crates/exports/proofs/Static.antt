@@ -29,7 +29,8 @@ use Rattle.block_reader.specs.declared.BlockRead.the-variants.{Refused as Unrea
 use Rattle.round_trips.specs.Blocks.{ReadsBack}
 use Rattle.round_trips.proofs.Blocks.{written-back}
 use Rattle.board.proofs.Answers.{applies-between}
-use Rattle.exports.specs.Exports.{answerNumber, headerOfZeros, staticAnswer, StaticRound}
+use Rattle.command_series.specs.Series.{answerNumber}
+use Rattle.exports.specs.Exports.{headerOfZeros, staticAnswer, StaticRound}
 
 -- 6 and then the rows of a static block: the writer's answer w, and what the lent words `out` became
 abbrev WroteLent : List ℕ → List ℕ → Written → List ℕ → Type 0

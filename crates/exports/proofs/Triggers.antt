@@ -13,17 +13,19 @@ use Rattle.refusals.specs.Writing.{writingBy, writingRules, writtenMeaning, out
 use Rattle.refusals.specs.declared.Refusal.{Refusal}
 use Rattle.refusals.specs.declared.Written.the-variants.{Length, Refused}
 use Rattle.packets.specs.Packets.{firstSix, packetBytes}
+use Rattle.words.proofs.Laws.{part-rest}
 use Rattle.run.specs.Run.{triggerNumber, triggerRules, triggerAnswer, afterTrigger, afterAnswer}
 use Rattle.run.specs.declared.Run.{Run}
-use Rattle.board.specs.State.{withRun}
+use Rattle.board.specs.State.{freshBoard, withRun}
 use Rattle.board.specs.Commands.{TriggersOn}
 use Rattle.board.specs.declared.Board.{Board}
 use Rattle.board.specs.declared.TriggeredOn.{TriggeredOn}
+use Rattle.call_refusals.specs.CallRefusals.{triggersRefusal}
+use Rattle.command_series.specs.Series.{firstRefusal, ObeysAll}
+use Rattle.command_series.specs.declared.AfterCommands.{AfterCommands}
+use Rattle.command_series.proofs.Parts.{past, one-left}
 use Rattle.exports.specs.Exports.{four, packetThen, packetsOf, afterTwo}
-use Rattle.exports.specs.CodeShape.{ObeysAll, GivesPackets}
-use Rattle.exports.specs.declared.AfterCommands.{AfterCommands}
-use Rattle.exports.proofs.Packets.{past, one-left}
-use Rattle.words.proofs.Laws.{part-rest}
+use Rattle.exports.specs.CodeShape.{GivesPackets}
 
 -- rows at the end that do not apply change nothing
 rows-before : {A : Type 0} (rs more : List Rule) (a : A) → lowest more a ≡ given a → lowest (rs ++ more) a ≡ lowest rs a
@@ -182,6 +184,12 @@ module _ (first : Run) (n i : ℕ) (out₀ out : List ℕ) (β : Board) (g : Tri
       rw whole (all-given first n i out₀ out (β .run) g en (omega arith) none)
 
 -- after two commands
-pub output-on : (w : List ℕ) (b : AfterCommands) → ObeysAll 2 w b → (count : ℕ) (out : List ℕ) (n : ℕ) (after : List ℕ)
-    → GivesPackets (b .board .run) count out n after → GivesPackets (afterTwo w .run) count out n after
-output-on w b obeyed count out n after l = rw (obeyed .board) at l
+module _ (w : List ℕ) (b : AfterCommands) (obeyed : ObeysAll 2 w b) where
+  pub output-on : (count : ℕ) (out : List ℕ) (n : ℕ) (after : List ℕ)
+      → GivesPackets (b .board .run) count out n after → GivesPackets (afterTwo w .run) count out n after
+  output-on count out n after l = rw (obeyed .board) at l
+
+  -- what refuses the call
+  pub triggers-refused : (count packets number r : ℕ)
+      → r ≡ triggersRefusal (b .refusal) count packets number → r ≡ triggersRefusal (firstRefusal 2 (freshBoard 0 0) w) count packets number
+  triggers-refused count packets number r e = e ∙ ap (λ (k : ℕ). triggersRefusal k count packets number) (obeyed .refusal)

@@ -1,10 +1,10 @@
 -- What the exported functions give, in the terms of the board.
-use Prim.Native.Nat.{ℕ, zero, suc, _+_, _*_, _/_, _%_}
+use Prim.Native.Nat.{ℕ, zero, suc, _+_, _/_}
 use mathlib.Core.Path.{_≡_}
 use mathlib.Core.Bool.{false, cond}
 use mathlib.Core.List.{List, [], _∷_, _++_}
-use lib.Dec.{eqb, ltb}
-use lib.ListN.{length, getD, take, drop}
+use lib.Dec.{eqb}
+use lib.ListN.{length, take, drop}
 use Rattle.refusals.specs.Tables.{Answer, given, refused, lowest}
 use Rattle.refusals.specs.Writing.{writingBy, outputAfter}
 use Rattle.packets.specs.Packets.{packetBytes, packetAnswer}
@@ -14,45 +14,16 @@ use Rattle.blocks.specs.Blocks.{headerWords, blockRules}
 use Rattle.blocks.specs.declared.Header.{Header}
 use Rattle.block_reader.specs.declared.Kind.the-variants.{Static}
 use Rattle.round_trips.specs.Blocks.{ReadsBack}
-use Rattle.command_reader.specs.Reading.{commandAnswer, restOf}
-use Rattle.steps.specs.Steps.{judgedReply, noReply}
-use Rattle.steps.specs.declared.Judged.{Judged}
+use Rattle.command_reader.specs.Reading.{commandAnswer}
 use Rattle.run.specs.Run.{clockedRun, triggerNumber, triggerRules, afterTrigger}
 use Rattle.run.specs.declared.Run.{Run}
-use Rattle.crate_pass.specs.declared.Outcome.{Outcome}
-use Rattle.crate_pass.specs.declared.Outcome.the-variants.{Good, Again, BoardFailed}
 use Rattle.board.specs.State.{freshBoard, withRun}
-use Rattle.board.specs.Commands.{boardAnswer, boardAfter}
-use Rattle.board.specs.SlowControl.{frameAt, replyAnswer, boardReplied}
 use Rattle.board.specs.declared.Board.{Board}
+use Rattle.call_refusals.specs.CallRefusals.{lowerOf, noRoom, passRefusal, packetsRefusal, triggersRefusal}
+use Rattle.command_series.specs.Series.{answerNumber, isGiven, afterCommands, acceptedOf, firstRefusal}
+use Rattle.reply_series.specs.Series.{goodOf, servedOf}
 
--- the number of an answer, 0 where it is given
-abbrev pub answerNumber : {A : Type 0} → Answer A → ℕ
-answerNumber (given a) = 0
-answerNumber (refused n p) = n
-
--- 1 for an answer that is given, 0 for a refusal
-abbrev pub isGiven : {A : Type 0} → Answer A → ℕ
-isGiven (given a) = 1
-isGiven (refused n p) = 0
-
--- ---- what a call refuses, and what it leaves. 0 stands for no refusal
-
--- "Where several apply, the lowest is given": the lower of two numbers of refusals
-unfoldable pub lowerOf : ℕ → ℕ → ℕ
-lowerOf m n = cond (eqb m 0) n (cond (eqb n 0) m (cond (ltb n m) n m))
-
--- and of commands one after another, the first of two
-unfoldable pub firstOf : ℕ → ℕ → ℕ
-firstOf m n = cond (eqb m 0) n m
-
--- 13 where bytes are left over at the end of a series of parts of a size
-unfoldable pub leftOver : ℕ → ℕ → ℕ
-leftOver size n = cond (eqb (n % size) 0) 0 13
-
--- "19: lent output shorter than what is due"
-unfoldable pub noRoom : ℕ → ℕ → ℕ
-noRoom due n = cond (ltb n due) 19 0
+-- ---- what a call leaves. 0 stands for no refusal
 
 -- what the lent output then holds: what is due, then what stood there; after a refusal, what stood there
 unfoldable pub holds : ℕ → List ℕ → List ℕ → List ℕ
@@ -71,26 +42,11 @@ GivesCount refusal n out r after = Gives (lowerOf refusal (noRoom 1 (length out)
 unfoldable pub commandGiven : List ℕ → ℕ
 commandGiven w = answerNumber (commandAnswer w)
 
--- ---- commands one after another: each is the first of the words that those before it left
-
--- the board after n commands
-unfoldable pub afterCommands : ℕ → Board → List ℕ → Board
-afterCommands zero β w = β
-afterCommands (suc n) β w = afterCommands n (boardAfter β w) (restOf w)
-
--- how many of n commands are accepted
-unfoldable pub acceptedOf : ℕ → Board → List ℕ → ℕ
-acceptedOf zero β w = 0
-acceptedOf (suc n) β w = isGiven (boardAnswer β w) + acceptedOf n (boardAfter β w) (restOf w)
+-- ---- commands one after another
 
 -- how many of n commands a fresh board accepts: none of them refuses the call
 abbrev pub CountsAccepted : ℕ → List ℕ → List ℕ → ℕ → List ℕ → Type 0
 CountsAccepted n w out r after = GivesCount 0 (acceptedOf n (freshBoard 0 0) w) out r after
-
--- the number of the first of n commands that is refused
-unfoldable pub firstRefusal : ℕ → Board → List ℕ → ℕ
-firstRefusal zero β w = 0
-firstRefusal (suc n) β w = firstOf (answerNumber (boardAnswer β w)) (firstRefusal n (boardAfter β w) (restOf w))
 
 -- a fresh board after one command, and after two
 abbrev pub afterOne : List ℕ → Board
@@ -101,38 +57,12 @@ afterTwo w = afterCommands 2 (freshBoard 0 0) w
 
 -- ---- a pass
 
-abbrev pub goodOutcome : Answer Outcome → ℕ
-goodOutcome (given (Good done)) = 1
-goodOutcome (given (Again done)) = 0
-goodOutcome (given (BoardFailed done)) = 0
-goodOutcome (refused n p) = 0
-
--- the first item judged, 29 bytes: a crate's number, and a reply of 28 bytes
-abbrev pub judgedFirst : Board → List ℕ → Judged
-judgedFirst β items = judgedReply (frameAt β (getD items 0 0)) (take 28 (drop 1 items))
-
--- how many of the first n items get a good answer, each on the board that the one before left
-unfoldable pub goodOf : ℕ → Board → List ℕ → ℕ
-goodOf zero β items = 0
-goodOf (suc n) β items =
-    goodOutcome (replyAnswer β (getD items 0 0) (judgedFirst β items))
-    + goodOf n (boardReplied β (getD items 0 0) (judgedFirst β items)) (drop 29 items)
-
 -- how many of the items get a good answer, after the first command of the words
 unfoldable pub passOf : List ℕ → List ℕ → ℕ
 passOf w items = goodOf (length items / 29) (afterOne w) items
 
--- what refuses the call: its command, or 13 where bytes are left over after the last item, or 19
-abbrev pub passRefusal : ℕ → ℕ → ℕ → ℕ
-passRefusal command n room = lowerOf (lowerOf command (leftOver 29 n)) (noRoom 1 room)
-
 abbrev pub CountsPass : List ℕ → List ℕ → List ℕ → ℕ → List ℕ → Type 0
 CountsPass w items out r after = Gives (passRefusal (firstRefusal 1 (freshBoard 0 0) w) (length items) (length out)) (passOf w items ∷ []) out r after
-
--- how many time-ups are served, one after another on these crates
-unfoldable pub servedOf : Board → List ℕ → ℕ
-servedOf β [] = 0
-servedOf β (i ∷ is) = isGiven (replyAnswer β i noReply) + servedOf (boardReplied β i noReply) is
 
 abbrev pub CountsTimeUps : List ℕ → List ℕ → List ℕ → ℕ → List ℕ → Type 0
 CountsTimeUps w is out r after = GivesCount (firstRefusal 1 (freshBoard 0 0) w) (servedOf (afterOne w) is) out r after
@@ -174,16 +104,15 @@ unfoldable pub packetsOf : ℕ → Run → List ℕ
 packetsOf zero r = []
 packetsOf (suc m) r = packetThen (lowest (triggerRules r four) 7) (packetBytes (triggerNumber r) four) (packetsOf m (afterTrigger r))
 
--- after two commands: `count` triggers are asked for, so 7 times as many bytes are due
-unfoldable pub triggersRefusal : List ℕ → ℕ → List ℕ → List ℕ → ℕ
-triggersRefusal w count packets number =
-    lowerOf (lowerOf (firstRefusal 2 (freshBoard 0 0) w) (noRoom (7 * count) (length packets))) (noRoom 1 (length number))
+-- what refuses `count` triggers after two commands
+abbrev pub refusalAfterTwo : List ℕ → ℕ → List ℕ → List ℕ → ℕ
+refusalAfterTwo w count packets number = triggersRefusal (firstRefusal 2 (freshBoard 0 0) w) count (length packets) (length number)
 
 -- those that are given stand in the lent bytes `packets`, and how many they are in the lent numbers `number`. A trigger that is refused ends
 -- the series, and does not refuse the call
 pub record GivesTriggers (w : List ℕ) (count : ℕ) (packets number : List ℕ) (r : ℕ) (packets′ number′ : List ℕ) : Type 0 where
-  pub bytes : Gives (triggersRefusal w count packets number) (packetsOf count (afterTwo w .run)) packets r packets′
-  pub many : Gives (triggersRefusal w count packets number) (length (packetsOf count (afterTwo w .run)) / 7 ∷ []) number r number′
+  pub bytes : Gives (refusalAfterTwo w count packets number) (packetsOf count (afterTwo w .run)) packets r packets′
+  pub many : Gives (refusalAfterTwo w count packets number) (length (packetsOf count (afterTwo w .run)) / 7 ∷ []) number r number′
 
 -- ---- packets read
 
@@ -194,9 +123,8 @@ goodFrom (suc n) bytes = isGiven (packetAnswer (take 7 bytes)) + goodFrom n (dro
 unfoldable pub goodPackets : List ℕ → ℕ
 goodPackets bytes = goodFrom (length bytes / 7) bytes
 
--- "13: packet is not 7 bytes", of what is left over
 abbrev pub CountsPackets : List ℕ → List ℕ → ℕ → List ℕ → Type 0
-CountsPackets bytes out r after = GivesCount (leftOver 7 (length bytes)) (goodPackets bytes) out r after
+CountsPackets bytes out r after = Gives (packetsRefusal (length bytes) (length out)) (goodPackets bytes ∷ []) out r after
 
 -- ---- a static block, written and read back
 

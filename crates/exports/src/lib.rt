@@ -2,38 +2,36 @@
 // A function that can refuse returns the number of the refusal, the lowest where several apply, and then leaves the lent output as it was;
 // else it returns 0, and what is due stands in front of the lent output. A number that it counts is the first of the lent numbers.
 ghost use mathlib.Core.Path.{_≡_};
-ghost use Prim.Native.Nat.{_*_, _/_, _<_, _≤_};
+ghost use Prim.Native.Nat.{_*_, _≤_};
 ghost use lib.ListN.{length};
 ghost use Rattle.crc.specs.Crc.{crc};
 ghost use Rattle.packets.specs.Packets.{packetAnswer};
-ghost use Rattle.crate_pass.specs.Crate.{replyMeaning};
-ghost use Rattle.acceptance.specs.Acceptance.{answerMeaning};
-ghost use Rattle.exports.specs.Exports.{answerNumber, isGiven, lowerOf, firstOf, leftOver, noRoom, commandGiven, CountsAccepted};
-ghost use Rattle.exports.specs.Exports.{goodOutcome, goodOf, passRefusal, CountsPass, servedOf, CountsTimeUps, MakesSteps, GivesTriggers};
+ghost use Rattle.command_series.specs.Series.{isGiven};
+ghost use Rattle.exports.specs.Exports.{commandGiven, CountsAccepted, CountsPass, CountsTimeUps, MakesSteps, GivesTriggers};
 ghost use Rattle.exports.specs.Exports.{goodPackets, CountsPackets, StaticRound};
-ghost use Rattle.exports.specs.CodeShape.{ObeysAll, CountsGood, GivesPackets};
-use acceptance::CommandAnswer;
+ghost use Rattle.exports.specs.CodeShape.{GivesPackets};
 use block_reader::BlockRead;
 use block_reader::Kind;
 use block_reader::read_block;
 use blocks::Header;
 use blocks::write_static;
 use board::Board;
-use board::power_up;
+use call_refusals::lower_of;
+use call_refusals::no_room;
+use call_refusals::packets_refusal;
+use call_refusals::pass_refusal;
+use call_refusals::triggers_refusal;
 use command_reader::CommandRead;
 use command_reader::read_command;
-use command_reader::rest_after;
-use configuration::active_word;
-use crate_pass::Crate;
-use crate_pass::Outcome;
-use crate_pass::PassKind;
-use crate_pass::ReplyAnswer;
+use command_series::obey_series;
 use crc::crc8;
 use packets::Fields;
 use packets::PacketRead;
 use packets::read_packet;
 use refusals::Written;
-use steps::judge_reply;
+use reply_series::good_on_board;
+use reply_series::good_replies;
+use reply_series::served_time_ups;
 use words::copy_words;
 
 // The CRC of bytes.
@@ -55,96 +53,6 @@ pub extern "C" fn ftm_read_command(words: &[u16]) -> u8
     }
 }
 
-// The lower of two refusals' numbers, of which 0 is none.
-fn lower_of(a: u8, b: u8) -> u8
-    ensures { λ r. ⌜ r ≡ lowerOf a b ⌝ }
-{
-    if a == 0 {
-        return b;
-    }
-    if b == 0 {
-        return a;
-    }
-    if b < a { b } else { a }
-}
-
-// 13 where bytes are left over at the end of a series of parts of a size, else 0.
-fn left_over(length: usize, size: usize) -> u8
-    requires { ⌜ 0 < size ⌝ }
-    ensures { λ r. ⌜ r ≡ leftOver size length ⌝ }
-{
-    if length % size == 0 { 0 } else { 13 }
-}
-
-// 19 where the lent output is shorter than what is due, else 0.
-fn no_room(due: usize, length: usize) -> u8
-    ensures { λ r. ⌜ r ≡ noRoom due length ⌝ }
-{
-    if length < due { 19 } else { 0 }
-}
-
-// Whether a command is accepted: 1, else 0.
-fn accepted_count(answer: CommandAnswer) -> u64
-    ensures { λ r. ⌜ (r ≡ isGiven (answerMeaning answer)) × (r ≤ 1) ⌝ }
-{
-    match answer {
-        CommandAnswer::Obeyed(_) => 1,
-        CommandAnswer::Refused(_) => 0,
-    }
-}
-
-// The number of the refusal of a command, 0 where it is accepted.
-fn command_refusal(answer: CommandAnswer) -> u8
-    ensures { λ r. ⌜ r ≡ answerNumber (answerMeaning answer) ⌝ }
-{
-    match answer {
-        CommandAnswer::Obeyed(_) => 0,
-        CommandAnswer::Refused(r) => r.number(),
-    }
-}
-
-// The first of two refusals' numbers, of which 0 is none.
-fn first_of(a: u8, b: u8) -> u8
-    ensures { λ r. ⌜ r ≡ firstOf a b ⌝ }
-{
-    if a == 0 { b } else { a }
-}
-
-// A board after commands, how many of them were accepted, and the number of the first that was refused, 0 where none was.
-struct AfterCommands {
-    board: Board,
-    accepted: u64,
-    refusal: u8,
-}
-
-// A fresh board obeys `count` commands of the words, one after another.
-fn obeyed(words: &[u16], count: u64) -> AfterCommands
-    ensures { λ r. ⌜ ObeysAll count (now (words .entry)) r ⌝ }
-{
-    let up = power_up(0, 0);
-    let mut board = up.board;
-    let mut accepted = 0;
-    let mut refusal = 0;
-    let mut rest = words;
-    let mut i = 0;
-    while i < count {
-        let done = board.obey(rest);
-        let answer = done.answer;
-        let next = done.board;
-        let after = rest_after(rest, done.used);
-        rest = after;
-        accepted += accepted_count(answer);
-        refusal = first_of(refusal, command_refusal(answer));
-        board = next;
-        i += 1;
-    }
-    AfterCommands {
-        board,
-        accepted,
-        refusal,
-    }
-}
-
 // On a fresh board: how many of `count` commands of the words, one after another, are accepted.
 #[no_mangle]
 pub extern "C" fn ftm_commands(words: &[u16], count: u64, accepted: &mut [u64]) -> u8
@@ -154,57 +62,9 @@ pub extern "C" fn ftm_commands(words: &[u16], count: u64, accepted: &mut [u64]) 
     if refusal != 0 {
         return refusal;
     }
-    let done = obeyed(words, count);
+    let done = obey_series(words, count);
     accepted[0] = done.accepted;
     0
-}
-
-// Whether an answer is good: 1, else 0.
-fn good_count(answer: ReplyAnswer) -> u64
-    ensures { λ r. ⌜ (r ≡ goodOutcome (replyMeaning answer)) × (r ≤ 1) ⌝ }
-{
-    match answer {
-        ReplyAnswer::Served(o) => match o {
-            Outcome::Good(_) => 1,
-            Outcome::Again(_) => 0,
-            Outcome::BoardFailed(_) => 0,
-        },
-        ReplyAnswer::Refused(_) => 0,
-    }
-}
-
-// How many of the items get a good answer.
-fn good_replies(first: [Crate; 4], block: &[u16], kind: PassKind, items: &[u8]) -> u64
-    ensures { λ r. ⌜ CountsGood (now (block .entry)) kind first (now (items .entry)) r ⌝ }
-{
-    let mut crates = first;
-    let mut good = 0;
-    let n = items.len() / 29;
-    let mut i = 0;
-    while i < n {
-        let index = items[29 * i];
-        if index < 4 {
-            let at = index as usize;
-            let own = crates[at];
-            let reply = &items[29 * i + 1..29 * i + 29];
-            let judged = judge_reply(block, index, own.board, own.code, reply);
-            let served = own.serve(kind, active_word(block, index), judged);
-            let state = served.state;
-            let answer = served.answer;
-            crates[at] = state;
-            good += good_count(answer);
-        }
-        i += 1;
-    }
-    good
-}
-
-// What refuses a pass: its command, items that are not of 29 bytes each, or no room for the count.
-fn pass_refusal(command: u8, length: usize, room: usize) -> u8
-    ensures { λ r. ⌜ r ≡ passRefusal command length room ⌝ }
-{
-    let own = lower_of(command, left_over(length, 29));
-    lower_of(own, no_room(1, room))
 }
 
 // On a fresh board: obeys the first command of the words, then serves the items, 29 bytes each, a crate's number and a reply of 28
@@ -213,7 +73,7 @@ fn pass_refusal(command: u8, length: usize, room: usize) -> u8
 pub extern "C" fn ftm_pass(words: &[u16], items: &[u8], good: &mut [u64]) -> u8
     ensures { λ r. ⌜ CountsPass (now (words .entry)) (now (items .entry)) (now (good .entry)) r (now (good .exit)) ⌝ }
 {
-    let done = obeyed(words, 1);
+    let done = obey_series(words, 1);
     let refusal = pass_refusal(done.refusal, items.len(), good.len());
     if refusal != 0 {
         return refusal;
@@ -226,30 +86,12 @@ pub extern "C" fn ftm_pass(words: &[u16], items: &[u8], good: &mut [u64]) -> u8
     0
 }
 
-// How many replies of the items are good, each by a call on the whole board.
-fn good_on_board(mut board: Board, items: &[u8]) -> u64
-    ensures { λ r. ⌜ r ≡ goodOf (length (now (items .entry)) / 29) board (now (items .entry)) ⌝ }
-{
-    let mut good = 0;
-    let n = items.len() / 29;
-    let mut i = 0;
-    while i < n {
-        let replied = board.reply(items[29 * i], &items[29 * i + 1..29 * i + 29]);
-        let answer = replied.answer;
-        let next = replied.board;
-        good += good_count(answer);
-        board = next;
-        i += 1;
-    }
-    good
-}
-
 // The same as `ftm_pass`, each item by a call on the whole board.
 #[no_mangle]
 pub extern "C" fn ftm_replies(words: &[u16], items: &[u8], good: &mut [u64]) -> u8
     ensures { λ r. ⌜ CountsPass (now (words .entry)) (now (items .entry)) (now (good .entry)) r (now (good .exit)) ⌝ }
 {
-    let done = obeyed(words, 1);
+    let done = obey_series(words, 1);
     let refusal = pass_refusal(done.refusal, items.len(), good.len());
     if refusal != 0 {
         return refusal;
@@ -259,40 +101,12 @@ pub extern "C" fn ftm_replies(words: &[u16], items: &[u8], good: &mut [u64]) -> 
     0
 }
 
-// Whether a time-up is served: 1, else 0.
-fn served_count(answer: ReplyAnswer) -> u64
-    ensures { λ r. ⌜ (r ≡ isGiven (replyMeaning answer)) × (r ≤ 1) ⌝ }
-{
-    match answer {
-        ReplyAnswer::Served(_) => 1,
-        ReplyAnswer::Refused(_) => 0,
-    }
-}
-
-// How many time-ups are served, one on each of the crates in turn.
-fn served_time_ups(first: Board, crates: &[u8]) -> u64
-    ensures { λ r. ⌜ r ≡ servedOf first (now (crates .entry)) ⌝ }
-{
-    let mut board = first;
-    let mut served = 0;
-    let mut i = 0;
-    while i < crates.len() {
-        let replied = board.time_up(crates[i]);
-        let answer = replied.answer;
-        let next = replied.board;
-        served += served_count(answer);
-        board = next;
-        i += 1;
-    }
-    served
-}
-
 // On a fresh board: obeys the first command of the words, then a time-up on each of the crates in turn. How many were served.
 #[no_mangle]
 pub extern "C" fn ftm_time_ups(words: &[u16], crates: &[u8], served: &mut [u64]) -> u8
     ensures { λ r. ⌜ CountsTimeUps (now (words .entry)) (now (crates .entry)) (now (served .entry)) r (now (served .exit)) ⌝ }
 {
-    let done = obeyed(words, 1);
+    let done = obey_series(words, 1);
     let refusal = lower_of(done.refusal, no_room(1, served.len()));
     if refusal != 0 {
         return refusal;
@@ -308,7 +122,7 @@ pub extern "C" fn ftm_time_ups(words: &[u16], crates: &[u8], served: &mut [u64])
 pub extern "C" fn ftm_clock_steps(words: &[u16], ticks: &[u32], out: &mut [u64]) -> u8
     ensures { λ r. ⌜ MakesSteps (now (words .entry)) (now (ticks .entry)) (now (out .entry)) r (now (out .exit)) ⌝ }
 {
-    let done = obeyed(words, 2);
+    let done = obey_series(words, 2);
     let refusal = lower_of(done.refusal, no_room(ticks.len() + 1, out.len()));
     if refusal != 0 {
         return refusal;
@@ -367,9 +181,8 @@ pub extern "C" fn ftm_triggers(
 ) -> u8
     ensures { λ r. ⌜ GivesTriggers (now (words .entry)) count (now (packets .entry)) (now (number .entry)) r (now (packets .exit)) (now (number .exit)) ⌝ }
 {
-    let done = obeyed(words, 2);
-    let own = lower_of(done.refusal, no_room(count, packets.len() / 7));
-    let refusal = lower_of(own, no_room(1, number.len()));
+    let done = obey_series(words, 2);
+    let refusal = triggers_refusal(done.refusal, count, packets.len(), number.len());
     if refusal != 0 {
         return refusal;
     }
@@ -407,7 +220,7 @@ fn good_packets(bytes: &[u8]) -> u64
 pub extern "C" fn ftm_packets(bytes: &[u8], good: &mut [u64]) -> u8
     ensures { λ r. ⌜ CountsPackets (now (bytes .entry)) (now (good .entry)) r (now (good .exit)) ⌝ }
 {
-    let refusal = lower_of(left_over(bytes.len(), 7), no_room(1, good.len()));
+    let refusal = packets_refusal(bytes.len(), good.len());
     if refusal != 0 {
         return refusal;
     }

@@ -3,8 +3,9 @@ use Prim.Native.Nat.{_+_, _-_, _≤_}
 use native.Mathlib.Omega.{arith}
 use mathlib.Core.Path.{_≡_, refl, sym, ap₂, _∙_}
 use lib.ListN.{length, length-set}
-use Rattle.exports.specs.Exports.{lowerOf}
-use Rattle.exports.proofs.Refusing.{room-for, lower-none, gives-refused, gives}
+use Rattle.call_refusals.specs.CallRefusals.{lowerOf}
+use Rattle.call_refusals.proofs.Numbers.{room-for, lower-none}
+use Rattle.exports.proofs.Refusing.{gives-refused, gives}
 use Rattle.exports.proofs.Clock.{Made, none-made, one-more, all-made, steps-output}
 use borrow.Author.Needs.{needs}
 use Rattle.exports.proofs.ftm_clock_steps.Statement.{statement}
@@ -17,8 +18,8 @@ Inv-loop words ticks out₀ refusal board₀ i₀ out board i =
 abbrev μ-loop : tie.MeasureT-loop
 μ-loop words ticks out₀ refusal board₀ i₀ out board i = length ticks - i
 
-obeyed-requires : tie.Need-obeyed-requires Inv-loop μ-loop
-obeyed-requires c κs = search needs
+obey-series-requires : tie.Need-obey-series-requires Inv-loop μ-loop
+obey-series-requires c κs = search needs
 
 add-no-room : tie.Need-add-no-room Inv-loop μ-loop
 add-no-room c = search needs
@@ -34,7 +35,7 @@ returns c =
     let at-lower = c .before in
     let at-room = at-lower .before in
     let at-obeyed = at-room .before in
-    let refusal = at-lower .lower-of .ensures ∙ ap₂ lowerOf (at-obeyed .obeyed .ensures .refusal) (at-room .no-room .ensures) in
+    let refusal = at-lower .lower-of .ensures ∙ ap₂ lowerOf (at-obeyed .obey-series .ensures .refusal) (at-room .no-room .ensures) in
     gives-refused _ _ _ _ refusal (c .if1 .taken)
 
 loop-holds : tie.Need-loop-holds Inv-loop μ-loop
@@ -43,7 +44,7 @@ loop-holds c =
     let at-lower = at-if .before in
     let at-room = at-lower .before in
     let at-obeyed = at-room .before in
-    let refusal = at-lower .lower-of .ensures ∙ ap₂ lowerOf (at-obeyed .obeyed .ensures .refusal) (at-room .no-room .ensures) in
+    let refusal = at-lower .lower-of .ensures ∙ ap₂ lowerOf (at-obeyed .obey-series .ensures .refusal) (at-room .no-room .ensures) in
     (omega arith, room-for _ _ (lower-none _ _ (sym refusal ∙ at-if .if1 .left) .1), refl, none-made _ _ _ _ refl)
 
 mul-clock : tie.Need-mul-clock Inv-loop μ-loop
@@ -93,9 +94,9 @@ returns-2 c =
     let at-lower = at-if .before in
     let at-room = at-lower .before in
     let at-obeyed = at-room .before in
-    let refusal = at-lower .lower-of .ensures ∙ ap₂ lowerOf (at-obeyed .obeyed .ensures .refusal) (at-room .no-room .ensures) in
+    let refusal = at-lower .lower-of .ensures ∙ ap₂ lowerOf (at-obeyed .obey-series .ensures .refusal) (at-room .no-room .ensures) in
     let made = all-made _ _ _ (loop .i) _ _ (loop .inv .3) (omega arith) (loop .inv .1) _ refl in
-    gives _ _ _ _ refusal (at-if .if1 .left) _ (steps-output _ _ _ _ _ (at-obeyed .obeyed .ensures .board) made)
+    gives _ _ _ _ refusal (at-if .if1 .left) _ (steps-output _ _ _ _ _ (at-obeyed .obey-series .ensures .board) made)
 
 pub ftm-clock-steps-spec : {M : Type 1} → statement M
 ftm-clock-steps-spec =
@@ -103,7 +104,7 @@ ftm-clock-steps-spec =
     (tie.spec
     Inv-loop
     μ-loop
-    obeyed-requires
+    obey-series-requires
     add-no-room
     no-room-requires
     lower-of-requires

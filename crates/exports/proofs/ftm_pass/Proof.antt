@@ -1,12 +1,13 @@
 -- `exports::ftm_pass` meets its contract. Assumes nothing.
-use Rattle.exports.proofs.Refusing.{room-one, gives-refused, gives-count}
-use Rattle.exports.proofs.Replies.{pass-on-crates, pass-refused}
+use Rattle.call_refusals.proofs.Numbers.{room-one}
+use Rattle.exports.proofs.Refusing.{gives-refused, gives-count}
+use Rattle.exports.proofs.AfterOne.{pass-on-crates, pass-refused}
 use borrow.Author.Needs.{needs}
 use Rattle.exports.proofs.ftm_pass.Statement.{statement}
 use Rattle.exports.proofs.ftm_pass.Tie as tie
 
-obeyed-requires : tie.Need-obeyed-requires
-obeyed-requires c κs = search needs
+obey-series-requires : tie.Need-obey-series-requires
+obey-series-requires c κs = search needs
 
 pass-refusal-requires : tie.Need-pass-refusal-requires
 pass-refusal-requires c κs = search needs
@@ -15,7 +16,7 @@ returns : tie.Need-returns
 returns c =
     let at-refusal = c .before in
     let at-obeyed = at-refusal .before in
-    let refusal = pass-refused _ (at-obeyed .obeyed .result) (at-obeyed .obeyed .ensures) _ _ _ (at-refusal .pass-refusal .ensures) in
+    let refusal = pass-refused _ (at-obeyed .obey-series .result) (at-obeyed .obey-series .ensures) _ _ _ (at-refusal .pass-refusal .ensures) in
     gives-refused _ _ _ _ refusal (c .if1 .taken)
 
 slice-aggregate-good-replies : tie.Need-slice-aggregate-good-replies
@@ -29,7 +30,7 @@ slice-write-good c =
     let at-if = c .before .before .before .before .before in
     let at-refusal = at-if .before in
     let at-obeyed = at-refusal .before in
-    let refusal = pass-refused _ (at-obeyed .obeyed .result) (at-obeyed .obeyed .ensures) _ _ _ (at-refusal .pass-refusal .ensures) in
+    let refusal = pass-refused _ (at-obeyed .obey-series .result) (at-obeyed .obey-series .ensures) _ _ _ (at-refusal .pass-refusal .ensures) in
     let h = room-one _ _ _ refusal (at-if .if1 .left) in
     search needs
 
@@ -41,15 +42,15 @@ returns-2 c =
     let at-if = c .before .before .before .before .before in
     let at-refusal = at-if .before in
     let at-obeyed = at-refusal .before in
-    let refusal = pass-refused _ (at-obeyed .obeyed .result) (at-obeyed .obeyed .ensures) _ _ _ (at-refusal .pass-refusal .ensures) in
-    let good = pass-on-crates _ (at-obeyed .obeyed .result) (at-obeyed .obeyed .ensures) _ _ (c .good-replies .ensures) in
+    let refusal = pass-refused _ (at-obeyed .obey-series .result) (at-obeyed .obey-series .ensures) _ _ _ (at-refusal .pass-refusal .ensures) in
+    let good = pass-on-crates _ (at-obeyed .obey-series .result) (at-obeyed .obey-series .ensures) _ _ (c .good-replies .ensures) in
     gives-count _ _ _ _ refusal (at-if .if1 .left) _ good
 
 pub ftm-pass-spec : {M : Type 1} → statement M
 ftm-pass-spec =
     tie.close
     (tie.spec
-    obeyed-requires
+    obey-series-requires
     pass-refusal-requires
     returns
     slice-aggregate-good-replies

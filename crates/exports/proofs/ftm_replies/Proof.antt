@@ -1,12 +1,13 @@
 -- `exports::ftm_replies` meets its contract. Assumes nothing.
-use Rattle.exports.proofs.Refusing.{room-one, gives-refused, gives-count}
-use Rattle.exports.proofs.Replies.{pass-on-board, pass-refused}
+use Rattle.call_refusals.proofs.Numbers.{room-one}
+use Rattle.exports.proofs.Refusing.{gives-refused, gives-count}
+use Rattle.exports.proofs.AfterOne.{pass-on-board, pass-refused}
 use borrow.Author.Needs.{needs}
 use Rattle.exports.proofs.ftm_replies.Statement.{statement}
 use Rattle.exports.proofs.ftm_replies.Tie as tie
 
-obeyed-requires : tie.Need-obeyed-requires
-obeyed-requires c κs = search needs
+obey-series-requires : tie.Need-obey-series-requires
+obey-series-requires c κs = search needs
 
 pass-refusal-requires : tie.Need-pass-refusal-requires
 pass-refusal-requires c κs = search needs
@@ -15,7 +16,7 @@ returns : tie.Need-returns
 returns c =
     let at-refusal = c .before in
     let at-obeyed = at-refusal .before in
-    let refusal = pass-refused _ (at-obeyed .obeyed .result) (at-obeyed .obeyed .ensures) _ _ _ (at-refusal .pass-refusal .ensures) in
+    let refusal = pass-refused _ (at-obeyed .obey-series .result) (at-obeyed .obey-series .ensures) _ _ _ (at-refusal .pass-refusal .ensures) in
     gives-refused _ _ _ _ refusal (c .if1 .taken)
 
 good-on-board-requires : tie.Need-good-on-board-requires
@@ -26,7 +27,7 @@ slice-write-good c =
     let at-if = c .before .before in
     let at-refusal = at-if .before in
     let at-obeyed = at-refusal .before in
-    let refusal = pass-refused _ (at-obeyed .obeyed .result) (at-obeyed .obeyed .ensures) _ _ _ (at-refusal .pass-refusal .ensures) in
+    let refusal = pass-refused _ (at-obeyed .obey-series .result) (at-obeyed .obey-series .ensures) _ _ _ (at-refusal .pass-refusal .ensures) in
     let h = room-one _ _ _ refusal (at-if .if1 .left) in
     search needs
 
@@ -38,15 +39,15 @@ returns-2 c =
     let at-if = c .before .before in
     let at-refusal = at-if .before in
     let at-obeyed = at-refusal .before in
-    let refusal = pass-refused _ (at-obeyed .obeyed .result) (at-obeyed .obeyed .ensures) _ _ _ (at-refusal .pass-refusal .ensures) in
-    let good = pass-on-board _ (at-obeyed .obeyed .result) (at-obeyed .obeyed .ensures) _ _ (c .good-on-board .ensures) in
+    let refusal = pass-refused _ (at-obeyed .obey-series .result) (at-obeyed .obey-series .ensures) _ _ _ (at-refusal .pass-refusal .ensures) in
+    let good = pass-on-board _ (at-obeyed .obey-series .result) (at-obeyed .obey-series .ensures) _ _ (c .good-on-board .ensures) in
     gives-count _ _ _ _ refusal (at-if .if1 .left) _ good
 
 pub ftm-replies-spec : {M : Type 1} → statement M
 ftm-replies-spec =
     tie.close
     (tie.spec
-    obeyed-requires
+    obey-series-requires
     pass-refusal-requires
     returns
     good-on-board-requires

@@ -3,7 +3,7 @@ use denote.Ref.{now}
 use mathlib.Core.Path.{sym, ap, _∙_}
 use Rattle.refusals.specs.Writing.{writtenMeaning}
 use Rattle.refusals.specs.declared.Written.{Written}
-use Rattle.exports.specs.Exports.{answerNumber}
+use Rattle.command_series.specs.Series.{answerNumber}
 use Rattle.exports.proofs.Static.{front-length, front-fits, static-unread, static-round, static-6, wrote-lent}
 use borrow.Author.Needs.{needs}
 use Rattle.exports.proofs.ftm_static.Statement.{statement}

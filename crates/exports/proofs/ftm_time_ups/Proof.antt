@@ -1,14 +1,15 @@
 -- `exports::ftm_time_ups` meets its contract. Assumes nothing.
 use mathlib.Core.Path.{ap₂, _∙_}
-use Rattle.exports.specs.Exports.{lowerOf}
-use Rattle.exports.proofs.Refusing.{room-one, gives-refused, gives-count}
-use Rattle.exports.proofs.TimeUps.{served-after}
+use Rattle.call_refusals.specs.CallRefusals.{lowerOf}
+use Rattle.call_refusals.proofs.Numbers.{room-one}
+use Rattle.exports.proofs.Refusing.{gives-refused, gives-count}
+use Rattle.exports.proofs.AfterOne.{served-after}
 use borrow.Author.Needs.{needs}
 use Rattle.exports.proofs.ftm_time_ups.Statement.{statement}
 use Rattle.exports.proofs.ftm_time_ups.Tie as tie
 
-obeyed-requires : tie.Need-obeyed-requires
-obeyed-requires c κs = search needs
+obey-series-requires : tie.Need-obey-series-requires
+obey-series-requires c κs = search needs
 
 no-room-requires : tie.Need-no-room-requires
 no-room-requires c κs = search needs
@@ -21,7 +22,7 @@ returns c =
     let at-lower = c .before in
     let at-room = at-lower .before in
     let at-obeyed = at-room .before in
-    let refusal = at-lower .lower-of .ensures ∙ ap₂ lowerOf (at-obeyed .obeyed .ensures .refusal) (at-room .no-room .ensures) in
+    let refusal = at-lower .lower-of .ensures ∙ ap₂ lowerOf (at-obeyed .obey-series .ensures .refusal) (at-room .no-room .ensures) in
     gives-refused _ _ _ _ refusal (c .if1 .taken)
 
 served-time-ups-requires : tie.Need-served-time-ups-requires
@@ -33,7 +34,7 @@ slice-write-served c =
     let at-lower = at-if .before in
     let at-room = at-lower .before in
     let at-obeyed = at-room .before in
-    let refusal = at-lower .lower-of .ensures ∙ ap₂ lowerOf (at-obeyed .obeyed .ensures .refusal) (at-room .no-room .ensures) in
+    let refusal = at-lower .lower-of .ensures ∙ ap₂ lowerOf (at-obeyed .obey-series .ensures .refusal) (at-room .no-room .ensures) in
     let h = room-one _ _ _ refusal (at-if .if1 .left) in
     search needs
 
@@ -46,15 +47,15 @@ returns-2 c =
     let at-lower = at-if .before in
     let at-room = at-lower .before in
     let at-obeyed = at-room .before in
-    let refusal = at-lower .lower-of .ensures ∙ ap₂ lowerOf (at-obeyed .obeyed .ensures .refusal) (at-room .no-room .ensures) in
-    let served = served-after _ (at-obeyed .obeyed .result) (at-obeyed .obeyed .ensures) _ _ (c .served-time-ups .ensures) in
+    let refusal = at-lower .lower-of .ensures ∙ ap₂ lowerOf (at-obeyed .obey-series .ensures .refusal) (at-room .no-room .ensures) in
+    let served = served-after _ (at-obeyed .obey-series .result) (at-obeyed .obey-series .ensures) _ _ (c .served-time-ups .ensures) in
     gives-count _ _ _ _ refusal (at-if .if1 .left) _ served
 
 pub ftm-time-ups-spec : {M : Type 1} → statement M
 ftm-time-ups-spec =
     tie.close
     (tie.spec
-    obeyed-requires
+    obey-series-requires
     no-room-requires
     lower-of-requires
     returns
