@@ -21,7 +21,7 @@ use Rattle.board.specs.declared.Board.{Board}
 use Rattle.any_order.specs.Steps.{Step, step, steps, first}
 use Rattle.any_order.specs.AnyOrder.{Begin, write, ping, Accepted, startOf, kindOf, storedBlock, wordOf, begunBoard}
 use Rattle.any_order.proofs.Places.{first-at, begun-todo}
-use Rattle.any_order.proofs.Walks.{view-begun, fit-begun}
+use Rattle.any_order.proofs.Follows.{view-begun, fit-begun}
 use Rattle.any_order.proofs.Frames.{bound-begun}
 use Rattle.any_order.proofs.Runs.{Runs}
 

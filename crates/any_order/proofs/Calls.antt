@@ -17,24 +17,24 @@ use Rattle.crate_pass.specs.declared.Outcome.{Outcome}
 use Rattle.board.specs.SlowControl.{frameAt, fetchRules}
 use Rattle.board.specs.declared.Board.{Board}
 use Rattle.board.specs.declared.CommandResult.{CommandResult}
-use Rattle.board.specs.declared.Replied.{Replied}
+use Rattle.board.specs.declared.ReplyResult.{ReplyResult}
 use Rattle.cells.specs.Order.{only, ordered}
 use Rattle.cells.proofs.Order.{map-ordered}
 use Rattle.any_order.specs.Steps.{Event, reply, timeUp}
 use Rattle.any_order.specs.AnyOrder.{Item, ItemResult, resultCrate, Begin, write, ping, Accepted, startOf, answerTo, afterItem, framesGiven}
 use Rattle.any_order.specs.AnyOrder.{fetched, sentAfter, resultOf, results, final, resultsAfter, boardAtEnd, inOrder, framesIn, framesOn, isAccepted}
 use Rattle.any_order.specs.Calls.{BegunBy, ServedItem, RepliesTo, Chained, lastBoard, itemsOf, Answered, answeredCrate, seen, answered}
-use Rattle.any_order.specs.Calls.{Fetch, FetchesOn, boardsAfter, framesSeen, allSeen, Sent, OfCalls}
+use Rattle.any_order.specs.Calls.{Fetch, FetchesOn, boardsAfter, framesSeen, allSeen, Sent, AnyOrderOfCalls}
 use Rattle.any_order.proofs.Fetch.{fetch-gives}
 use Rattle.any_order.proofs.AnyOrder.{demand-3}
 
 -- ---- one item
 
-answer-is : (β : Board) (c : ℕ) (e : Event) (r : Replied) → RepliesTo β c e r → replyMeaning (r .answer) ≡ answerTo β (c, e)
+answer-is : (β : Board) (c : ℕ) (e : Event) (r : ReplyResult) → RepliesTo β c e r → replyMeaning (r .answer) ≡ answerTo β (c, e)
 answer-is β c (reply bytes) r p = p .answer
 answer-is β c timeUp r p = p .answer
 
-board-is : (β : Board) (c : ℕ) (e : Event) (r : Replied) → RepliesTo β c e r → r .board ≡ afterItem β (c, e)
+board-is : (β : Board) (c : ℕ) (e : Event) (r : ReplyResult) → RepliesTo β c e r → r .board ≡ afterItem β (c, e)
 board-is β c (reply bytes) r p = p .board
 board-is β c timeUp r p = p .board
 
@@ -145,7 +145,7 @@ module _ (β : Board) (g : Begin) (returned : Board) (start : returned ≡ start
 
 pub demand-3-of-calls : (β : Board) (g : Begin) (r : CommandResult) → BegunBy β g r
     → (one two : List ServedItem) → Chained (r .board) one → Chained (r .board) two
-    → itemsOf two ≡ inOrder (itemsOf one) → OfCalls β g (r .board) one two
+    → itemsOf two ≡ inOrder (itemsOf one) → AnyOrderOfCalls β g (r .board) one two
 demand-3-of-calls β g r b one two p q e =
     let start : r .board ≡ startOf β g = returned-by β g r b in
     let claim = demand-3 β g (accepted-by β g r b) (itemsOf one) in

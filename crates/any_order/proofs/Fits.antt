@@ -5,13 +5,13 @@ use mathlib.Core.Path.{_≡_, _∙_}
 use native.Mathlib.Omega.{arith}
 use lib.ListN.{length, length-set}
 use Rattle.steps.specs.declared.Judged.{Judged}
-use Rattle.crate_pass.specs.Crate.{nextBoard, placed, advanced, noted, withRecord, crateAfter}
+use Rattle.crate_pass.specs.Crate.{nextBoard, placed, advanced, withEntry, withRecord, crateAfter}
 use Rattle.crate_pass.proofs.After.{after-any}
 use Rattle.crate_pass.specs.declared.PassKind.{PassKind}
 use Rattle.crate_pass.specs.declared.Crate.{Crate}
 use Rattle.any_order.proofs.Places.{Code, one, two, three, four, first-code, next-least}
 use Rattle.any_order.proofs.Kept.{NoneFrom, none-after}
-use Rattle.any_order.proofs.Walks.{Fit, nonzero}
+use Rattle.any_order.proofs.Follows.{Fit, nonzero}
 
 -- the code after a code
 next-code : {kind : PassKind} {code : ℕ} → Code kind code → code < 3 → Code kind (code + 1)
@@ -29,9 +29,9 @@ fit-advanced kind w k b ten clear =
     record { code = first-code kind; low = omega arith; ten = ten; clear = λ j h. clear j (omega arith) }
 
 module _ (kind : PassKind) (w : ℕ) (k : Crate) (fit : Fit kind k) where
-  fit-onward : (h : Judged) → k .board < 10 → Fit kind (advanced kind w (noted k h))
-  unfolding noted
-  fit-onward h b = fit-advanced kind w (noted k h) b (fit .ten) (λ j l. fit .clear j (omega arith))
+  fit-onward : (h : Judged) → k .board < 10 → Fit kind (advanced kind w (withEntry k h))
+  unfolding withEntry
+  fit-onward h b = fit-advanced kind w (withEntry k h) b (fit .ten) (λ j l. fit .clear j (omega arith))
 
   fit-record : k .board < 10 → Fit kind (advanced kind w (withRecord k))
   unfolding withRecord
@@ -40,7 +40,7 @@ module _ (kind : PassKind) (w : ℕ) (k : Crate) (fit : Fit kind k) where
       (none-after (k .failed) (k .board) (k .code) (rw (fit .ten) b) (nonzero (fit .code)) (fit .clear))
 
   pub fit-kept : (h : Judged) → Fit kind (crateAfter kind w k h)
-  unfolding placed noted
+  unfolding placed withEntry
   fit-kept h =
       after-any kind w k h (Fit kind)
       (record {

@@ -11,7 +11,7 @@ use lib.Dec.{ltb, eqb}
 use borrow.Author.Tests.{ltb-true, ltb-false, eq-eqb, ne-eqb}
 use Rattle.ftu_list.specs.declared.Entry.{Entry}
 use Rattle.steps.specs.declared.Judged.{Judged}
-use Rattle.crate_pass.specs.Crate.{entriesIn, callsAt, notedIn, noted}
+use Rattle.crate_pass.specs.Crate.{entriesIn, callsAt, withEntryIn, withEntry}
 use Rattle.crate_pass.proofs.Entries.{entry, entries-set}
 use Rattle.crate_pass.specs.declared.PassKind.{PassKind}
 use Rattle.crate_pass.specs.declared.PassKind.the-variants.{Reprogramming, Ping}
@@ -141,8 +141,8 @@ found-entry tries dna errors = let k : tries + 1 ≡ 0 → ⊥ = λ q. omega ari
 
 -- a note in the list is what the steps find
 noted-ping : (k : Crate) (h : Judged) → k .tries ≤ 2 → k .code ≡ 4
-    → map foundIn (entriesIn (noted k h)) ≡ foundBy (step (k .board) (k .code)) (k .tries) h (map foundIn (entriesIn k))
-unfolding noted notedIn foundBy
+    → map foundIn (entriesIn (withEntry k h)) ≡ foundBy (step (k .board) (k .code)) (k .tries) h (map foundIn (entriesIn k))
+unfolding withEntry withEntryIn foundBy
 noted-ping k h t e =
     rw (eq-eqb _ _ e)
     (ap (map foundIn) (entries-set (k .dna) (k .calls) (k .«crc_errors») (k .board) (h .dna) (callsAt (k .tries)) (h .«crc_errors»))
@@ -155,7 +155,7 @@ unfolding foundBy
 found-other s tries h boards e = rw (ne-eqb _ _ e)
 
 pub boards-noted : {kind : PassKind} {code : ℕ} → Code kind code → (k : Crate) (h : Judged) → k .code ≡ code → k .tries ≤ 2
-    → boardsOf kind (entriesIn (noted k h)) ≡ foundBy (step (k .board) (k .code)) (k .tries) h (boardsOf kind (entriesIn k))
+    → boardsOf kind (entriesIn (withEntry k h)) ≡ foundBy (step (k .board) (k .code)) (k .tries) h (boardsOf kind (entriesIn k))
 boards-noted one k h e t = sym (found-other (step (k .board) (k .code)) (k .tries) h (replicate 10 nothing) (λ q. omega arith))
 boards-noted two k h e t = sym (found-other (step (k .board) (k .code)) (k .tries) h (replicate 10 nothing) (λ q. omega arith))
 boards-noted three k h e t = sym (found-other (step (k .board) (k .code)) (k .tries) h (replicate 10 nothing) (λ q. omega arith))

@@ -1,7 +1,7 @@
 -- Demand 3 (`demand-3` in AnyOrder), and the laws that lead to it, in this order.
 pub mod Places
 pub mod Kept
-pub mod Walks
+pub mod Follows
 pub mod Fits
 pub mod Frames
 pub mod Fetch

@@ -21,7 +21,7 @@ use Rattle.any_order.specs.AnyOrder.{Item, ItemResult, itemCrate, result
 use Rattle.any_order.specs.AnyOrder.{fetched, results, final, framesIn, framesOn, acceptedIn, mostFrames, passResults, passEnd}
 use Rattle.any_order.specs.AnyOrder.{frameOn, passOn, resultsOn, endOn, Rising, stepOf, Alone}
 use Rattle.any_order.proofs.Kept.{failedSteps, failed-rising, boardsOf}
-use Rattle.any_order.proofs.Walks.{view, view-first, view-none, view-begun}
+use Rattle.any_order.proofs.Follows.{view, view-first, view-none, view-begun}
 use Rattle.any_order.proofs.Frames.{bound-sent, most-frames, frames-accepted}
 use Rattle.any_order.proofs.Fetch.{frameIn, fetched-step}
 use Rattle.any_order.proofs.Served.{crateStep, endCells, outCells, final-cells, results-cells}

@@ -12,7 +12,8 @@ use Rattle.refusals.specs.Tables.{given, refused}
 use Rattle.configuration.specs.Configuration.{activeWord}
 use Rattle.steps.specs.Steps.{stepFrame}
 use Rattle.steps.specs.declared.Judged.{Judged}
-use Rattle.crate_pass.specs.Crate.{entriesIn, countedFrame, placed, advanced, stepped, noted, withRecord, Moved, withOutcome, passed, missed, moved}
+use Rattle.crate_pass.specs.Crate.{entriesIn, countedFrame, placed, advanced, stepped, withEntry, withRecord, Moved, withOutcome}
+use Rattle.crate_pass.specs.Crate.{afterGoodReply, afterFailedSend, moved}
 use Rattle.crate_pass.specs.Crate.{crateAnswer, crateAfter}
 use Rattle.crate_pass.proofs.Entries.{entries-stay}
 use Rattle.crate_pass.specs.declared.PassKind.{PassKind}
@@ -23,7 +24,7 @@ use Rattle.four_crates.specs.FourCrates.{noCrate}
 use Rattle.cells.proofs.Cells.{endAlone, outAlone}
 use Rattle.any_order.specs.Steps.{Step, step, steps, Event, judged, Pass, Result, refusal, react}
 use Rattle.any_order.specs.AnyOrder.{Item, ItemResult, framesIn, passResults, passEnd, stepOf}
-use Rattle.any_order.proofs.Walks.{Fit, view, resultFor, walks}
+use Rattle.any_order.proofs.Follows.{Fit, view, resultFor, follows}
 use Rattle.any_order.proofs.Places.{Code, one, two, three}
 use Rattle.any_order.proofs.Fits.{fit-kept}
 use Rattle.any_order.proofs.Frames.{Bound, bound-kept, bound-sent, steps-most}
@@ -54,9 +55,9 @@ module _ (kind : PassKind) (w : ℕ) where
       go true = refl
       go false = sent-advanced k
 
-  sent-missed : (k : Crate) → Counted (k .sent) (missed kind w k .state)
-  unfolding missed placed withRecord
-  sent-missed k = go (ltb (k .tries) 2)
+  sent-failed-send : (k : Crate) → Counted (k .sent) (afterFailedSend kind w k .state)
+  unfolding afterFailedSend placed withRecord
+  sent-failed-send k = go (ltb (k .tries) 2)
     where
       again : Moved
       again = withOutcome Again (placed k (k .board) (k .code) (k .tries + 1))
@@ -68,16 +69,16 @@ module _ (kind : PassKind) (w : ℕ) where
       go true = refl
       go false = sent-advanced (withRecord k)
 
-  sent-passed : (k : Crate) (h : Judged) → Counted (k .sent) (passed kind w k h .state)
-  unfolding passed noted
-  sent-passed k h = sent-stepped (noted k h)
+  sent-good : (k : Crate) (h : Judged) → Counted (k .sent) (afterGoodReply kind w k h .state)
+  unfolding afterGoodReply withEntry
+  sent-good k h = sent-stepped (withEntry k h)
 
   sent-moved : (k : Crate) (h : Judged) → Counted (k .sent) (moved kind w k h .state)
   sent-moved k h = go (h .good)
     where
-      go : (t : Bool) → Counted (k .sent) (cond {A = Moved} t (passed kind w k h) (missed kind w k) .state)
-      go true = sent-passed k h
-      go false = sent-missed k
+      go : (t : Bool) → Counted (k .sent) (cond {A = Moved} t (afterGoodReply kind w k h) (afterFailedSend kind w k) .state)
+      go true = sent-good k h
+      go false = sent-failed-send k
 
 counted-one : (frame : Step → List ℕ) (k : Crate) (n : ℕ) → n < 65535 → countedFrame (k .board) n ≡ n + length (map frame (stepOf k))
 unfolding countedFrame stepOf
@@ -120,11 +121,11 @@ module _ (kind : PassKind) (block : List ℕ) (c : ℕ) where
 
   step-result : (k : Crate) (e : Event) → Fit kind k → result k e ≡ react frame e (view kind word k) .0
   unfolding crateStep
-  step-result k e f = ap (λ (p : Result × Pass). p .0) (walks frame kind word k e f)
+  step-result k e f = ap (λ (p : Result × Pass). p .0) (follows frame kind word k e f)
 
   step-view : (k : Crate) (e : Event) → Fit kind k → view kind word (next k e) ≡ react frame e (view kind word k) .1
   unfolding crateStep
-  step-view k e f = ap (λ (p : Result × Pass). p .1) (walks frame kind word k e f)
+  step-view k e f = ap (λ (p : Result × Pass). p .1) (follows frame kind word k e f)
 
   step-fit : (k : Crate) (e : Event) → Fit kind k → Fit kind (next k e)
   unfolding crateStep

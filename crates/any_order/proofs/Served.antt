@@ -24,7 +24,7 @@ use Rattle.any_order.specs.AnyOrder.{sentAfter, results, final, stepOf}
 use Rattle.cells.proofs.Order.{Side, low, high, side}
 use Rattle.cells.proofs.Cells.{one, end, out, one-high, one-low, one-length}
 use Rattle.board.proofs.Serving.{answer-high, board-high, answer-low, board-low}
-use Rattle.any_order.proofs.Walks.{resultFor}
+use Rattle.any_order.proofs.Follows.{resultFor}
 use Rattle.any_order.proofs.Fetch.{frameIn, fetched-step}
 
 -- what crate c gives for an event, in a pass of the kind with the stored block, and what it is then

@@ -1,4 +1,4 @@
--- Demand 3 over the contracts of the public calls alone: what any results that keep them have to do with the claim (`OfCalls`).
+-- Demand 3 over the contracts of the public calls alone: what any results that keep them have to do with the claim (`AnyOrderOfCalls`).
 use Prim.Native.Nat.{ℕ, _<_, _≤_}
 use mathlib.Core.Path.{_≡_}
 use mathlib.Core.Bool.{cond, _&&_}
@@ -11,14 +11,14 @@ use Rattle.refusals.specs.declared.Written.{Written}
 use Rattle.refusals.specs.declared.Written.the-variants.{Length, Refused}
 use Rattle.commands.specs.declared.Command.the-variants.{Write, Ping}
 use Rattle.acceptance.specs.Acceptance.{answerMeaning}
-use Rattle.steps.specs.Steps.{judgedReply, noReply}
+use Rattle.steps.specs.Steps.{noReply}
 use Rattle.crate_pass.specs.Crate.{replyMeaning}
 use Rattle.crate_pass.specs.declared.Outcome.{Outcome}
 use Rattle.board.specs.Commands.{Obeys}
-use Rattle.board.specs.SlowControl.{frameAt, fetchRules, Replies}
+use Rattle.board.specs.SlowControl.{frameAt, fetchRules, Replies, judgedAt}
 use Rattle.board.specs.declared.Board.{Board}
 use Rattle.board.specs.declared.CommandResult.{CommandResult}
-use Rattle.board.specs.declared.Replied.{Replied}
+use Rattle.board.specs.declared.ReplyResult.{ReplyResult}
 use Rattle.cells.specs.Order.{ordered}
 use Rattle.any_order.specs.Steps.{Event, reply, timeUp}
 use Rattle.any_order.specs.AnyOrder.{Item, ItemResult, Begin, write, ping, resultsAfter, boardAtEnd, isAccepted, framesOn, AnyOrder}
@@ -35,11 +35,11 @@ BegunBy β (ping w) r = Obeys β w r × (answerMeaning (r .answer) ≡ given Pin
 -- one item, as a caller serves it, with what `reply` or `time_up` returned
 pub record ServedItem : Type 0 where
   pub item : Item
-  pub replied : Replied
+  pub replied : ReplyResult
 
 -- the contracts of `reply` and of `time_up`
-abbrev pub RepliesTo : Board → ℕ → Event → Replied → Type 0
-RepliesTo β c (reply bytes) r = Replies β c (judgedReply (frameAt β c) bytes) r
+abbrev pub RepliesTo : Board → ℕ → Event → ReplyResult → Type 0
+RepliesTo β c (reply bytes) r = Replies β c (judgedAt β c bytes) r
 RepliesTo β c timeUp r = Replies β c noReply r
 
 -- a series: each call keeps its contract, on the board that the one before returned
@@ -108,7 +108,7 @@ Sent c returned ss frames = (fs : List Fetch) → FetchesOn c (returned ∷ boar
 
 -- ---- the claim, of any board, an accepted write or ping on it, and two series of the same items, the second in the order of the crates
 
-pub record OfCalls (β : Board) (g : Begin) (returned : Board) (one two : List ServedItem) : Type 0 where
+pub record AnyOrderOfCalls (β : Board) (g : Begin) (returned : Board) (one two : List ServedItem) : Type 0 where
   -- the claim holds of the items
   pub claim : AnyOrder β g (itemsOf one)
   -- and what it speaks of is what the caller sees, and has at the end

@@ -37,6 +37,6 @@ module _ (h : Header) where
   dynamic-exactly t m out = block-exactly (measurementRules m) h (dynamicBody t m) out tt
 
   -- the FTU list and the failure message: 19, 20
-  pub plain-exactly : (body out : List ℕ) → BlockExactly [] h body out
+  pub unbounded-exactly : (body out : List ℕ) → BlockExactly [] h body out
   unfolding blockRules
-  plain-exactly body out = block-exactly [] h body out tt
+  unbounded-exactly body out = block-exactly [] h body out tt

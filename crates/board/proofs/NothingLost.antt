@@ -28,8 +28,8 @@ use Rattle.board.specs.SlowControl.{frameAt, fetchRules, replyAnswer, af
 use Rattle.board.specs.SentOut.{SendsStatic, SendsDynamic, SendsList, SendsFailure}
 use Rattle.board.specs.declared.Board.{Board}
 use Rattle.board.specs.declared.CommandResult.{CommandResult}
-use Rattle.board.specs.declared.TriggeredOn.{TriggeredOn}
-use Rattle.board.specs.declared.Replied.{Replied}
+use Rattle.board.specs.declared.TriggerResult.{TriggerResult}
+use Rattle.board.specs.declared.ReplyResult.{ReplyResult}
 
 -- what a writer does, from the lent output to its answer and to what the output then holds
 abbrev pub Writer : Type 1
@@ -87,10 +87,10 @@ module _ (β : Board) (n p : ℕ) where
 pub record NothingLost (β : Board) : Type 0 where
   pub command : (w : List ℕ) (r : CommandResult) → Obeys β w r → (n p : ℕ) → answerMeaning (r .answer) ≡ refused n p
       → (r .board ≡ β) × (n ≤ 8 → r .used ≡ 0) × (9 ≤ n → r .used ≡ 5 + blockLength (commandIn w))
-  pub trigger : (f : Fields) (out after : List ℕ) (t : TriggeredOn) → TriggersOn β f out t after → (n p : ℕ) → writtenMeaning (t .answer) ≡ refused n p
+  pub trigger : (f : Fields) (out after : List ℕ) (t : TriggerResult) → TriggersOn β f out t after → (n p : ℕ) → writtenMeaning (t .answer) ≡ refused n p
       → (t .board ≡ β) × (after ≡ out)
   -- a reply or a time-up
-  pub reply : (i : ℕ) (h : Judged) (r : Replied) → Replies β i h r → (n p : ℕ) → replyMeaning (r .answer) ≡ refused n p → r .board ≡ β
+  pub reply : (i : ℕ) (h : Judged) (r : ReplyResult) → Replies β i h r → (n p : ℕ) → replyMeaning (r .answer) ≡ refused n p → r .board ≡ β
   -- the outstanding frame, and the four blocks
   pub frame : (i : ℕ) → KeepsOutput (Wrote (fetchRules β i) (frameAt β i))
   pub static : KeepsOutput (SendsStatic β)

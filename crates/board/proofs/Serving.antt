@@ -21,7 +21,7 @@ use Rattle.steps.specs.Steps.{stepFrame, judgedReply}
 use Rattle.steps.specs.declared.Judged.{Judged}
 use Rattle.crate_pass.specs.Crate.{isDone, crateAnswer, crateAfter, Serves}
 use Rattle.crate_pass.specs.declared.Crate.{Crate}
-use Rattle.crate_pass.specs.declared.CrateServed.{CrateServed}
+use Rattle.crate_pass.specs.declared.CrateResult.{CrateResult}
 use Rattle.crate_pass.specs.declared.ReplyAnswer.the-variants as reply-answer
 use Rattle.four_crates.proofs.OneCrate.{rules-11}
 use Rattle.four_crates.specs.FourCrates.{noCrate, servedRules, outstandingAnswer, servedAnswer}
@@ -97,7 +97,7 @@ module _ (β : Board) (i : ℕ) where
     replies-11 l = record { answer = sym (answer-high l); board = sym (board-high l) }
 
     -- `k`, `w`, `j`: the crate, its word of active flags and its place as the code has them
-    module _ (k : Crate) (w : ℕ) (r : CrateServed) (s : Serves (β .kind) w k h r) where
+    module _ (k : Crate) (w : ℕ) (r : CrateResult) (s : Serves (β .kind) w k h r) where
       pub replies-crate : (j : ℕ) → i ≡ j → j ≤ 3 → k ≡ crateAt β i → (i ≤ 3 → w ≡ activeWord (β .block) i)
           → Replies β i h (record { board = withCrates β (set (β .crates) j (r .state)); answer = r .answer })
       replies-crate j e l ek ew =

@@ -3,21 +3,19 @@ use Prim.Native.Nat.{ℕ}
 use mathlib.Core.Path.{_≡_}
 use mathlib.Core.List.{List}
 use Rattle.refusals.specs.Tables.{Answer, given, refused}
-use Rattle.refusals.specs.Writing.{Wrote}
-use Rattle.packets.specs.Packets.{packetBytes}
 use Rattle.packets.specs.declared.Fields.{Fields}
 use Rattle.commands.specs.declared.Command.{Command}
 use Rattle.commands.specs.declared.Command.the-variants.{Read, Write, Start, Stop, Ping, CrateReset}
 use Rattle.command_reader.specs.Reading.{commandAnswer, usedOf, blockOf}
 use Rattle.acceptance.specs.Acceptance.{answerMeaning, decided}
-use Rattle.run.specs.Run.{started, stopped, refreshed, triggerNumber, triggerRules, triggerAnswer, afterAnswer}
+use Rattle.run.specs.Run.{started, stopped, refreshed, triggerAnswer, afterAnswer, clockedRun, Gives}
 use Rattle.crate_pass.specs.declared.PassKind.{PassKind}
 use Rattle.crate_pass.specs.declared.PassKind.the-variants.{Reprogramming}
 use Rattle.four_crates.specs.FourCrates.{begunAll}
 use Rattle.board.specs.State.{activeWords, statusOf, withRun}
 use Rattle.board.specs.declared.Board.{Board}
 use Rattle.board.specs.declared.CommandResult.{CommandResult}
-use Rattle.board.specs.declared.TriggeredOn.{TriggeredOn}
+use Rattle.board.specs.declared.TriggerResult.{TriggerResult}
 
 -- ---- commands
 
@@ -72,6 +70,12 @@ pub record Obeys (β : Board) (w : List ℕ) (r : CommandResult) : Type 0 where
   pub used : r .used ≡ usedOf (commandAnswer w)
   pub board : r .board ≡ boardAfter β w
 
+-- ---- clock steps
+
+-- the board after a clock step
+abbrev pub afterClockStep : Board → ℕ → Board
+afterClockStep β ticks = withRun β (clockedRun (β .run) ticks)
+
 -- ---- triggers
 
 -- the board after a trigger
@@ -79,6 +83,6 @@ abbrev pub afterTriggerOn : Board → Fields → List ℕ → Board
 afterTriggerOn β f out = withRun β (afterAnswer (β .run) (triggerAnswer (β .run) f out))
 
 -- the board answered t to a trigger, and the lent bytes `out` became `after`
-pub record TriggersOn (β : Board) (f : Fields) (out : List ℕ) (t : TriggeredOn) (after : List ℕ) : Type 0 where
-  pub packet : Wrote (triggerRules (β .run) f) (packetBytes (triggerNumber (β .run)) f) out (t .answer) after
+pub record TriggersOn (β : Board) (f : Fields) (out : List ℕ) (t : TriggerResult) (after : List ℕ) : Type 0 where
+  pub packet : Gives (β .run) f out (t .answer) after
   pub board : t .board ≡ afterTriggerOn β f out

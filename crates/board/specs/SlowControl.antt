@@ -5,14 +5,14 @@ use mathlib.Core.List.{List}
 use lib.ListN.{set}
 use Rattle.refusals.specs.Tables.{Answer, given, refused, Rule}
 use Rattle.configuration.specs.Configuration.{activeWord}
-use Rattle.steps.specs.Steps.{stepFrame}
+use Rattle.steps.specs.Steps.{stepFrame, judgedReply}
 use Rattle.steps.specs.declared.Judged.{Judged}
 use Rattle.crate_pass.specs.Crate.{Moved, replyMeaning}
 use Rattle.crate_pass.specs.declared.Outcome.{Outcome}
 use Rattle.four_crates.specs.FourCrates.{servedRules, movedOn, servedAnswer, sentOn}
 use Rattle.board.specs.State.{crateAt, withCrates}
 use Rattle.board.specs.declared.Board.{Board}
-use Rattle.board.specs.declared.Replied.{Replied}
+use Rattle.board.specs.declared.ReplyResult.{ReplyResult}
 
 -- 11, then 12
 abbrev pub fetchRules : Board → ℕ → List Rule
@@ -23,6 +23,10 @@ unfoldable pub frameAt : Board → ℕ → List ℕ
 frameAt β i = stepFrame (β .block) i (crateAt β i .board) (crateAt β i .code)
 
 -- ---- replies and time-ups
+
+-- a reply on crate i, judged by the frame outstanding there
+abbrev pub judgedAt : Board → ℕ → List ℕ → Judged
+judgedAt β i bytes = judgedReply (frameAt β i) bytes
 
 -- a reply or a time-up on crate i, once it is judged, moves that crate
 abbrev pub movedAt : Board → ℕ → Judged → Moved
@@ -40,7 +44,7 @@ unfoldable pub boardReplied : Board → ℕ → Judged → Board
 boardReplied β i h = afterReply β i h (replyAnswer β i h)
 
 -- the board answered r to a reply or a time-up on crate i, judged as h
-pub record Replies (β : Board) (i : ℕ) (h : Judged) (r : Replied) : Type 0 where
+pub record Replies (β : Board) (i : ℕ) (h : Judged) (r : ReplyResult) : Type 0 where
   pub answer : replyMeaning (r .answer) ≡ replyAnswer β i h
   pub board : r .board ≡ boardReplied β i h
 

@@ -18,7 +18,7 @@ use Rattle.acceptance.specs.declared.Status.{Status}
 use Rattle.board.specs.declared.Board.{Board}
 use Rattle.board.specs.declared.PowerUp.{PowerUp}
 use Rattle.board.specs.declared.PowerUp.the-variants.{Up, Refused}
-use Rattle.board.specs.declared.PoweredUp.{PoweredUp}
+use Rattle.board.specs.declared.PowerUpResult.{PowerUpResult}
 
 -- ---- parts of the state
 
@@ -75,6 +75,6 @@ unfoldable pub powerUpAnswer : ℕ → Answer Unit
 powerUpAnswer id = lowest (powerUpRules id) tt
 
 -- power-up answered r
-pub record PowersUp (id firmware : ℕ) (r : PoweredUp) : Type 0 where
+pub record PowersUp (id firmware : ℕ) (r : PowerUpResult) : Type 0 where
   pub answer : powerUpMeaning (r .answer) ≡ powerUpAnswer id
   pub board : r .board ≡ boardFor (powerUpAnswer id) id firmware

@@ -8,13 +8,13 @@ ghost use Rattle.refusals.specs.Writing.{Wrote};
 ghost use Rattle.configuration.specs.Configuration.{activeWord};
 ghost use Rattle.commands.specs.declared.Command.the-variants.{Write};
 ghost use Rattle.acceptance.specs.Acceptance.{answerMeaning};
-ghost use Rattle.run.specs.Run.{clockedRun, refreshed};
+ghost use Rattle.run.specs.Run.{refreshed};
 ghost use Rattle.crate_pass.specs.declared.PassKind.the-variants.{Reprogramming, Ping};
-ghost use Rattle.steps.specs.Steps.{judgedReply, noReply};
+ghost use Rattle.steps.specs.Steps.{noReply};
 ghost use Rattle.four_crates.specs.FourCrates.{sentMeaning};
 ghost use Rattle.board.specs.State.{activeWords, isIdle, statusOf, withRun, freshBoard, PowersUp};
-ghost use Rattle.board.specs.Commands.{written, pinged, afterCommand, Obeys, TriggersOn};
-ghost use Rattle.board.specs.SlowControl.{frameAt, Replies, fetchRules, sentAnswer};
+ghost use Rattle.board.specs.Commands.{written, pinged, afterCommand, Obeys, TriggersOn, afterClockStep};
+ghost use Rattle.board.specs.SlowControl.{frameAt, Replies, fetchRules, sentAnswer, judgedAt};
 ghost use Rattle.board.specs.SentOut.{headerOf, SendsStatic, SendsDynamic, SendsList, SendsFailure};
 use acceptance::CommandAnswer;
 use acceptance::Status;
@@ -80,7 +80,7 @@ pub enum PowerUp {
     Refused(Refusal),
 }
 
-pub struct PoweredUp {
+pub struct PowerUpResult {
     // No board of the caller's where power-up is refused: one of ID 0.
     pub board: Board,
     pub answer: PowerUp,
@@ -93,12 +93,12 @@ pub struct CommandResult {
     pub used: usize,
 }
 
-pub struct TriggeredOn {
+pub struct TriggerResult {
     pub board: Board,
     pub answer: Written,
 }
 
-pub struct Replied {
+pub struct ReplyResult {
     pub board: Board,
     pub answer: ReplyAnswer,
 }
@@ -123,16 +123,16 @@ fn fresh_board(board_id: u64, firmware_id: u16) -> Board
 }
 
 // Power-up with a board ID and a firmware ID.
-pub fn power_up(board_id: u64, firmware_id: u16) -> PoweredUp
+pub fn power_up(board_id: u64, firmware_id: u16) -> PowerUpResult
     ensures { λ r. ⌜ PowersUp «board_id» «firmware_id» r ⌝ }
 {
     if ID_LIMIT <= board_id {
-        return PoweredUp {
+        return PowerUpResult {
             board: fresh_board(0, 0),
             answer: PowerUp::Refused(Refusal::WrongHeader),
         };
     }
-    PoweredUp {
+    PowerUpResult {
         board: fresh_board(board_id, firmware_id),
         answer: PowerUp::Up,
     }
@@ -300,21 +300,21 @@ impl Board {
 
     // A clock step.
     pub fn clock(self, ticks: u32) -> Board
-        ensures { λ r. ⌜ r ≡ withRun self (clockedRun (self .run) ticks) ⌝ }
+        ensures { λ r. ⌜ r ≡ afterClockStep self ticks ⌝ }
     {
         let run = self.run;
         self.with_run(run.clock(ticks))
     }
 
     // A trigger, whose packet goes into the lent bytes.
-    pub fn trigger(self, fields: Fields, out: &mut [u8]) -> TriggeredOn
+    pub fn trigger(self, fields: Fields, out: &mut [u8]) -> TriggerResult
         ensures { λ r. ⌜ TriggersOn self fields (now (out .entry)) r (now (out .exit)) ⌝ }
     {
         let run = self.run;
         let t = run.trigger(fields, out);
         let answer = t.answer;
         let next = t.run;
-        TriggeredOn {
+        TriggerResult {
             board: self.with_run(next),
             answer,
         }
@@ -322,8 +322,8 @@ impl Board {
 
     // A reply, of any length, on a crate. One way out and constant places, so that little of the board is copied. (Where there is no such
     // crate, the fourth is served, and what came of it is dropped.)
-    pub fn reply(mut self, index: u8, bytes: &[u8]) -> Replied
-        ensures { λ r. ⌜ Replies self index (judgedReply (frameAt self index) (now (bytes .entry))) r ⌝ }
+    pub fn reply(mut self, index: u8, bytes: &[u8]) -> ReplyResult
+        ensures { λ r. ⌜ Replies self index (judgedAt self index (now (bytes .entry))) r ⌝ }
     {
         let kind = self.kind;
         let block = self.block;
@@ -349,14 +349,14 @@ impl Board {
             3 => self.crates[3] = after,
             _ => answer = ReplyAnswer::Refused(Refusal::NoSuchCrate),
         }
-        Replied {
+        ReplyResult {
             board: self,
             answer,
         }
     }
 
     // A time-up on a crate, in the same way.
-    pub fn time_up(mut self, index: u8) -> Replied
+    pub fn time_up(mut self, index: u8) -> ReplyResult
         ensures { λ r. ⌜ Replies self index noReply r ⌝ }
     {
         let kind = self.kind;
@@ -379,7 +379,7 @@ impl Board {
             3 => self.crates[3] = state,
             _ => answer = ReplyAnswer::Refused(Refusal::NoSuchCrate),
         }
-        Replied {
+        ReplyResult {
             board: self,
             answer,
         }

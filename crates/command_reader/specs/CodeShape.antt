@@ -10,5 +10,5 @@ use Rattle.command_reader.specs.Reading.{namedIn}
 -- the refusals 1 and 2 do not apply, and what is named is a
 pub record FirstWordsRead (w : List ℕ) (a : Answer Command) : Type 0 where
   pub five : 5 ≤ length w
-  pub mark : getD w 0 0 ≡ 0x0040
+  pub first-word : getD w 0 0 ≡ 0x0040
   pub named : namedIn w ≡ a

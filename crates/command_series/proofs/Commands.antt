@@ -8,14 +8,15 @@ use mathlib.Core.Bool.{Bool, true, false, cond}
 use mathlib.Core.List.{List}
 use lib.Dec.{eqb}
 use borrow.Author.Tests.{eq-eqb, ne-eqb, eqb-true}
+use Rattle.refusals.specs.Tables.{answerNumber, isGiven}
 use Rattle.command_reader.specs.Reading.{restAfter, restOf}
 use Rattle.acceptance.specs.Acceptance.{answerMeaning}
 use Rattle.board.specs.State.{freshBoard, powerUpAnswer, PowersUp}
 use Rattle.board.specs.Commands.{boardAnswer, boardAfter, Obeys}
 use Rattle.board.specs.declared.Board.{Board}
-use Rattle.board.specs.declared.PoweredUp.{PoweredUp}
+use Rattle.board.specs.declared.PowerUpResult.{PowerUpResult}
 use Rattle.board.specs.declared.CommandResult.{CommandResult}
-use Rattle.command_series.specs.Series.{answerNumber, isGiven, firstOf, afterCommands, acceptedOf, firstRefusal, ObeysAll}
+use Rattle.command_series.specs.Series.{firstOf, afterCommands, acceptedOf, firstRefusal, ObeysAll}
 use Rattle.command_series.proofs.Parts.{one-left}
 
 -- the first of two
@@ -52,7 +53,7 @@ pub record ObeyedSoFar (w : List ℕ) (count i : ℕ) (rest : List ℕ) (β : Bo
   pub number : accepted + acceptedOf (count - i) β rest ≡ acceptedOf count (freshBoard 0 0) w
   pub first : firstOf refusal (firstRefusal (count - i) β rest) ≡ firstRefusal count (freshBoard 0 0) w
 
-pub none-obeyed : (w : List ℕ) (count : ℕ) (p : PoweredUp) → PowersUp 0 0 p → ObeyedSoFar w count 0 w (p .board) 0 0
+pub none-obeyed : (w : List ℕ) (count : ℕ) (p : PowerUpResult) → PowersUp 0 0 p → ObeyedSoFar w count 0 w (p .board) 0 0
 unfolding powerUpAnswer firstOf
 none-obeyed w count p up =
     record {

@@ -4,22 +4,12 @@ use mathlib.Core.Path.{_≡_}
 use mathlib.Core.Bool.{cond}
 use mathlib.Core.List.{List}
 use lib.Dec.{eqb}
-use Rattle.refusals.specs.Tables.{Answer, given, refused}
+use Rattle.refusals.specs.Tables.{answerNumber, isGiven}
 use Rattle.command_reader.specs.Reading.{restOf}
 use Rattle.board.specs.State.{freshBoard}
 use Rattle.board.specs.Commands.{boardAnswer, boardAfter}
 use Rattle.board.specs.declared.Board.{Board}
 use Rattle.command_series.specs.declared.AfterCommands.{AfterCommands}
-
--- the number of an answer, 0 where it is given
-abbrev pub answerNumber : {A : Type 0} → Answer A → ℕ
-answerNumber (given a) = 0
-answerNumber (refused n p) = n
-
--- 1 for an answer that is given, 0 for a refusal
-abbrev pub isGiven : {A : Type 0} → Answer A → ℕ
-isGiven (given a) = 1
-isGiven (refused n p) = 0
 
 -- of commands one after another the first refusal is given: the first of two numbers, of which 0 is none
 unfoldable pub firstOf : ℕ → ℕ → ℕ

@@ -1,8 +1,9 @@
 // Commands obeyed one after another, on a fresh board.
 ghost use mathlib.Core.Path.{_≡_};
 ghost use Prim.Native.Nat.{_≤_};
+ghost use Rattle.refusals.specs.Tables.{answerNumber, isGiven};
 ghost use Rattle.acceptance.specs.Acceptance.{answerMeaning};
-ghost use Rattle.command_series.specs.Series.{answerNumber, isGiven, firstOf, ObeysAll};
+ghost use Rattle.command_series.specs.Series.{firstOf, ObeysAll};
 use acceptance::CommandAnswer;
 use board::Board;
 use board::power_up;

@@ -8,38 +8,38 @@ use borrow.Author.Tests.{ltb-true, ltb-false, leb-false}
 use Rattle.steps.specs.declared.Judged.{Judged}
 use Rattle.crate_pass.specs.declared.PassKind.{PassKind}
 use Rattle.crate_pass.specs.declared.Crate.{Crate}
-use Rattle.crate_pass.specs.Crate.{isDone, placed, advanced, stepped, noted, withRecord, passed, missed, moved, crateAfter}
+use Rattle.crate_pass.specs.Crate.{isDone, placed, advanced, stepped, withEntry, withRecord, afterGoodReply, afterFailedSend, moved, crateAfter}
 
 module _ (kind : PassKind) (w : ℕ) (k : Crate) (h : Judged) (P : Crate → Type 0) where
   -- P holds of the crate where nothing is outstanding, after a good reply, and after another or none
   pub record Each : Type 0 where
     pub done : P k
-    pub next-step : k .board < 10 → h .good ≡ true → k .code < 3 → P (placed (noted k h) (k .board) (k .code + 1) 0)
-    pub next-board : k .board < 10 → h .good ≡ true → 3 ≤ k .code → P (advanced kind w (noted k h))
+    pub next-step : k .board < 10 → h .good ≡ true → k .code < 3 → P (placed (withEntry k h) (k .board) (k .code + 1) 0)
+    pub next-board : k .board < 10 → h .good ≡ true → 3 ≤ k .code → P (advanced kind w (withEntry k h))
     pub again : k .board < 10 → k .tries < 2 → P (placed k (k .board) (k .code) (k .tries + 1))
     pub failed : k .board < 10 → 2 ≤ k .tries → P (advanced kind w (withRecord k))
 
   module _ (each : Each) where
-    after-good : k .board < 10 → h .good ≡ true → P (passed kind w k h .state)
-    unfolding passed stepped noted
+    after-good : k .board < 10 → h .good ≡ true → P (afterGoodReply kind w k h .state)
+    unfolding afterGoodReply stepped withEntry
     after-good d g = go (ltb (k .code) 3) refl
       where
-        go : (t : Bool) → ltb (k .code) 3 ≡ t → P (cond t (placed (noted k h) (k .board) (k .code + 1) 0) (advanced kind w (noted k h)))
+        go : (t : Bool) → ltb (k .code) 3 ≡ t → P (cond t (placed (withEntry k h) (k .board) (k .code + 1) 0) (advanced kind w (withEntry k h)))
         go true e = each .next-step d g (ltb-true _ _ e)
         go false e = each .next-board d g (ltb-false _ _ e)
 
-    after-other : k .board < 10 → P (missed kind w k .state)
-    unfolding missed
+    after-other : k .board < 10 → P (afterFailedSend kind w k .state)
+    unfolding afterFailedSend
     after-other d = go (ltb (k .tries) 2) refl
       where
-        go : (t : Bool) → ltb (k .tries) 2 ≡ t → P (missed kind w k .state)
+        go : (t : Bool) → ltb (k .tries) 2 ≡ t → P (afterFailedSend kind w k .state)
         go true e = rw e (each .again d (ltb-true _ _ e))
         go false e = rw e (each .failed d (ltb-false _ _ e))
 
     after-moved : k .board < 10 → P (moved kind w k h .state)
     after-moved d = go (h .good) refl
       where
-        go : (t : Bool) → h .good ≡ t → P (cond t (passed kind w k h) (missed kind w k) .state)
+        go : (t : Bool) → h .good ≡ t → P (cond t (afterGoodReply kind w k h) (afterFailedSend kind w k) .state)
         go true e = after-good d e
         go false e = after-other d
 

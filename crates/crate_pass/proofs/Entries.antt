@@ -11,7 +11,7 @@ use Rattle.steps.specs.declared.Judged.{Judged}
 use Rattle.crate_pass.specs.declared.PassKind.{PassKind}
 use Rattle.crate_pass.specs.declared.PassKind.the-variants.{Reprogramming, Ping}
 use Rattle.crate_pass.specs.declared.Crate.{Crate}
-use Rattle.crate_pass.specs.Crate.{silent, asEntries, entriesIn, begunCrate, placed, advanced, notedIn, noted, withRecord, crateAfter}
+use Rattle.crate_pass.specs.Crate.{silent, asEntries, entriesIn, begunCrate, placed, advanced, withEntryIn, withEntry, withRecord, crateAfter}
 use Rattle.crate_pass.proofs.After.{after-any}
 
 abbrev pub entry : ℕ → ℕ → ℕ → Entry
@@ -50,7 +50,7 @@ entries-kept w k = refl
 
 -- a reply or a time-up leaves the list as it was, where the frame was not a ping
 pub entries-stay : (kind : PassKind) (w : ℕ) (k : Crate) (h : Judged) → (k .code ≡ 4 → ⊥) → entriesIn (crateAfter kind w k h) ≡ entriesIn k
-unfolding noted notedIn withRecord advanced placed
+unfolding withEntry withEntryIn withRecord advanced placed
 entries-stay kind w k h n =
     after-any kind w k h (λ (q : Crate). entriesIn q ≡ entriesIn k)
     (record {

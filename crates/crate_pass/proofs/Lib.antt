@@ -3,6 +3,6 @@ pub mod Next
 pub mod Serving
 pub mod After
 pub mod Entries
-pub mod Sound
+pub mod Invariant
 pub mod Tables
 pub mod Injective

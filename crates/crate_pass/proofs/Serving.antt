@@ -14,8 +14,8 @@ use Rattle.crate_pass.specs.declared.ReplyAnswer.the-variants.{Served, R
 use Rattle.crate_pass.specs.declared.Crate.{Crate}
 use Rattle.crate_pass.specs.declared.Place.{Place}
 use Rattle.crate_pass.specs.declared.Outcome.the-variants.{Good, Again, BoardFailed}
-use Rattle.crate_pass.specs.Crate.{isDone, countedFrame, callsAt, notedIn, placed, advanced, stepped, noted, withRecord}
-use Rattle.crate_pass.specs.Crate.{Moved, passed, missed, moved, crateAnswer, crateAfter, Serves}
+use Rattle.crate_pass.specs.Crate.{isDone, countedFrame, callsAt, withEntryIn, placed, advanced, stepped, withEntry, withRecord}
+use Rattle.crate_pass.specs.Crate.{Moved, afterGoodReply, afterFailedSend, moved, crateAnswer, crateAfter, Serves}
 use Rattle.crate_pass.specs.CodeShape.{nextPlace, placeAfter}
 
 module _ (kind : PassKind) (w : ℕ) (k : Crate) (h : Judged) where
@@ -43,12 +43,12 @@ module _ (kind : PassKind) (w : ℕ) (k : Crate) (h : Judged) where
           state = crateWith (set (k .dna) (k .board) (h .dna)) (set (k .calls) (k .board) m) (set (k .«crc_errors») (k .board) (h .«crc_errors»)) (k .failed);
           answer = Served (Good (leb 10 (to .board)));
         })
-    unfolding placeAfter nextPlace passed stepped noted notedIn advanced placed
+    unfolding placeAfter nextPlace afterGoodReply stepped withEntry withEntryIn advanced placed
     serves-noted m em g q = rw (em, en, et) (serves-moved _ (lt-leb _ _ d) (rw (g, q) refl))
 
     pub serves-good : h .good ≡ true → (k .code ≡ 4 → ⊥)
         → Serves kind w k h (record { state = crateWith (k .dna) (k .calls) (k .«crc_errors») (k .failed); answer = Served (Good (leb 10 (to .board))) })
-    unfolding placeAfter nextPlace passed stepped noted notedIn advanced placed
+    unfolding placeAfter nextPlace afterGoodReply stepped withEntry withEntryIn advanced placed
     serves-good g q = go (ltb (k .code) 3) refl
       where
         go : (t : Bool) → ltb (k .code) 3 ≡ t
@@ -59,7 +59,7 @@ module _ (kind : PassKind) (w : ℕ) (k : Crate) (h : Judged) where
     -- a first or second miss, and a third
     pub serves-again : h .good ≡ false → k .tries < 2
         → Serves kind w k h (record { state = crateWith (k .dna) (k .calls) (k .«crc_errors») (k .failed); answer = Served (Again (leb 10 (to .board))) })
-    unfolding placeAfter nextPlace missed placed
+    unfolding placeAfter nextPlace afterFailedSend placed
     serves-again g l = rw (en, et) (serves-moved _ (lt-leb _ _ d) (rw (g, lt-ltb _ _ l) refl))
 
     pub serves-failed : h .good ≡ false → 2 ≤ k .tries
@@ -67,5 +67,5 @@ module _ (kind : PassKind) (w : ℕ) (k : Crate) (h : Judged) where
           state = crateWith (k .dna) (k .calls) (k .«crc_errors») (set (k .failed) (k .board) (k .code));
           answer = Served (BoardFailed (leb 10 (to .board)));
         })
-    unfolding placeAfter nextPlace missed withRecord advanced placed
+    unfolding placeAfter nextPlace afterFailedSend withRecord advanced placed
     serves-failed g l = rw (en, et) (serves-moved _ (lt-leb _ _ d) (rw (g, le-ltb _ _ l) refl))

@@ -1,4 +1,4 @@
--- 01, Slow control: one crate in a pass. Its place is a board and a code; crates/any_order shows that it walks the steps of a pass.
+-- 01, Slow control: one crate in a pass. Its place is a board and a code; crates/any_order shows that it follows the steps of a pass.
 use Prim.Native.Nat.{ℕ, zero, suc, _+_, _-_}
 use mathlib.Core.Path.{_≡_}
 use mathlib.Core.Bool.{Bool, true, false, cond}
@@ -16,7 +16,7 @@ use Rattle.crate_pass.specs.declared.Outcome.the-variants.{Good, Again, 
 use Rattle.crate_pass.specs.declared.ReplyAnswer.{ReplyAnswer}
 use Rattle.crate_pass.specs.declared.ReplyAnswer.the-variants.{Served, Refused}
 use Rattle.crate_pass.specs.declared.Crate.{Crate}
-use Rattle.crate_pass.specs.declared.CrateServed.{CrateServed}
+use Rattle.crate_pass.specs.declared.CrateResult.{CrateResult}
 
 -- "In a reprogramming pass each crate serves its active boards ..; in a ping, all ten"
 abbrev pub serves : PassKind → ℕ → ℕ → Bool
@@ -129,16 +129,16 @@ abbrev pub callsAt : ℕ → ℕ
 callsAt tries = cond (ltb tries 2) (tries + 1) 3
 
 -- a number for the board, among those of the boards, where its frame was a ping
-unfoldable pub notedIn : Crate → List ℕ → ℕ → List ℕ
-notedIn k ns n = cond (eqb (k .code) 4) (set ns (k .board) n) ns
+unfoldable pub withEntryIn : Crate → List ℕ → ℕ → List ℕ
+withEntryIn k ns n = cond (eqb (k .code) 4) (set ns (k .board) n) ns
 
 -- the list with an entry for the board: the calls that it needed, its DNA, and its CRC errors
-unfoldable pub noted : Crate → Judged → Crate
-noted k h =
+unfoldable pub withEntry : Crate → Judged → Crate
+withEntry k h =
     record {
-      dna = notedIn k (k .dna) (h .dna);
-      calls = notedIn k (k .calls) (callsAt (k .tries));
-      «crc_errors» = notedIn k (k .«crc_errors») (h .«crc_errors»);
+      dna = withEntryIn k (k .dna) (h .dna);
+      calls = withEntryIn k (k .calls) (callsAt (k .tries));
+      «crc_errors» = withEntryIn k (k .«crc_errors») (h .«crc_errors»);
       failed = k .failed;
       sent = k .sent;
       board = k .board;
@@ -172,19 +172,19 @@ abbrev pub withOutcome : (Bool → Outcome) → Crate → Moved
 withOutcome outcome k = record { outcome = outcome (isDone k); state = k }
 
 -- "A good reply moves to the next step"
-unfoldable pub passed : PassKind → ℕ → Crate → Judged → Moved
-passed kind w k h = withOutcome Good (stepped kind w (noted k h))
+unfoldable pub afterGoodReply : PassKind → ℕ → Crate → Judged → Moved
+afterGoodReply kind w k h = withOutcome Good (stepped kind w (withEntry k h))
 
 -- "A bad reply, or a time-up, sends again; after the third send of a step fails, the board gets a failure record and its other steps are
 -- dropped"
-unfoldable pub missed : PassKind → ℕ → Crate → Moved
-missed kind w k =
+unfoldable pub afterFailedSend : PassKind → ℕ → Crate → Moved
+afterFailedSend kind w k =
     cond (ltb (k .tries) 2)
     (withOutcome Again (placed k (k .board) (k .code) (k .tries + 1)))
     (withOutcome BoardFailed (advanced kind w (withRecord k)))
 
 abbrev pub moved : PassKind → ℕ → Crate → Judged → Moved
-moved kind w k h = cond (h .good) (passed kind w k h) (missed kind w k)
+moved kind w k h = cond (h .good) (afterGoodReply kind w k h) (afterFailedSend kind w k)
 
 -- an answer as 01 has it
 abbrev pub replyMeaning : ReplyAnswer → Answer Outcome
@@ -202,6 +202,6 @@ unfoldable pub crateAfter : PassKind → ℕ → Crate → Judged → Crate
 crateAfter kind w k h = cond (isDone k) k (moved kind w k h .state)
 
 -- the crate answered r
-pub record Serves (kind : PassKind) (w : ℕ) (k : Crate) (h : Judged) (r : CrateServed) : Type 0 where
+pub record Serves (kind : PassKind) (w : ℕ) (k : Crate) (h : Judged) (r : CrateResult) : Type 0 where
   pub answer : replyMeaning (r .answer) ≡ crateAnswer kind w k h
   pub state : r .state ≡ crateAfter kind w k h

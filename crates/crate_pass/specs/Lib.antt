@@ -1,4 +1,4 @@
 -- What the contracts cite.
 pub mod Crate
 pub mod CodeShape
-pub mod Sound
+pub mod Invariant

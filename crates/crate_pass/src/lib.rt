@@ -51,7 +51,7 @@ pub struct Place {
 }
 
 // An answer, with the crate after it.
-pub struct CrateServed {
+pub struct CrateResult {
     pub state: Crate,
     pub answer: ReplyAnswer,
 }
@@ -116,7 +116,7 @@ fn next_place(kind: PassKind, word: u16, board: u8) -> Place
     }
 }
 
-// The place after a good reply or a miss: the next step, the same again, or the next board.
+// The place after a good reply, or after a bad one or a time-up: the next step, the same again, or the next board.
 fn place_after(kind: PassKind, word: u16, at: Place, good: bool) -> Place
     requires { ⌜ at .board < 10 ⌝ }
     ensures { λ r. ⌜ r ≡ placeAfter kind word at good ⌝ }
@@ -207,7 +207,7 @@ impl Crate {
 
     // What a reply or a time-up does to the crate, and what it gets. The crate is changed in place, in one function, so that it is not
     // copied from step to step.
-    pub fn serve(mut self, kind: PassKind, word: u16, judged: Judged) -> CrateServed
+    pub fn serve(mut self, kind: PassKind, word: u16, judged: Judged) -> CrateResult
         ensures { λ r. ⌜ Serves kind word self judged r ⌝ }
     {
         let board = self.board;
@@ -215,7 +215,7 @@ impl Crate {
         let tries = self.tries;
         let sent = self.sent;
         if 10 <= board {
-            return CrateServed {
+            return CrateResult {
                 state: self,
                 answer: ReplyAnswer::Refused(Refusal::NothingOutstanding),
             };
@@ -233,19 +233,19 @@ impl Crate {
                 self.calls[at] = calls_at(tries);
                 self.crc_errors[at] = judged.crc_errors;
             }
-            return CrateServed {
+            return CrateResult {
                 state: self,
                 answer: ReplyAnswer::Served(Outcome::Good(done)),
             };
         }
         if tries < 2 {
-            return CrateServed {
+            return CrateResult {
                 state: self,
                 answer: ReplyAnswer::Served(Outcome::Again(done)),
             };
         }
         self.failed[at] = code;
-        CrateServed {
+        CrateResult {
             state: self,
             answer: ReplyAnswer::Served(Outcome::BoardFailed(done)),
         }

@@ -26,16 +26,16 @@ use Rattle.board.specs.Commands.{Obeys, TriggersOn}
 use Rattle.board.specs.SlowControl.{frameAt, Replies}
 use Rattle.board.specs.declared.Board.{Board}
 use Rattle.board.specs.declared.PowerUp.the-variants.{Up, Refused}
-use Rattle.board.specs.declared.PoweredUp.{PoweredUp}
+use Rattle.board.specs.declared.PowerUpResult.{PowerUpResult}
 use Rattle.board.specs.declared.CommandResult.{CommandResult}
-use Rattle.board.specs.declared.TriggeredOn.{TriggeredOn}
-use Rattle.board.specs.declared.Replied.{Replied}
+use Rattle.board.specs.declared.TriggerResult.{TriggerResult}
+use Rattle.board.specs.declared.ReplyResult.{ReplyResult}
 use Rattle.texts.specs.Texts.{inBytes}
 use Rattle.texts.specs.declared.Response.{Response}
 use Rattle.texts.specs.declared.Response.the-variants.{One}
 use Rattle.exchange.specs.Orders.{Order, powerUp, command, clockStep, trigger, reply, timeUp, otherForm, taking}
 use Rattle.exchange.specs.Orders.{areFields, fieldsFrom, oneByte, anyWords, replyFrom, powerUpOrder, clockOrder, triggerOrder}
-use Rattle.exchange.specs.Exchange.{refusalPrinted, plainPrinted, commandPrinted, outcomePrinted, printedAnswer, afterPowerUp, boardAfterOrder}
+use Rattle.exchange.specs.Exchange.{refusalPrinted, powerUpPrinted, commandPrinted, outcomePrinted, printedAnswer, afterPowerUp, boardAfterOrder}
 use Rattle.exchange.specs.CodeShape.{Prints, PrintsWrittenBytes, Answers, AnswersInBytes}
 use Rattle.exchange.specs.declared.Answered.{Answered}
 use Rattle.exchange.proofs.Writing.{room-writing, due-response}
@@ -76,7 +76,7 @@ power-up-is b w l e =
     ∙ sym (taken _ _ (eq-eqb _ _ l))
 
 module _ (β : Board) (b w : List ℕ) (l : length b ≡ 10) (e : w ≡ wordsIn b) (id : ℕ)
-    (ei : id ≡ number 65536 (getD w 0 0 ∷ getD w 1 0 ∷ getD w 2 0 ∷ getD w 3 0 ∷ [])) (up : PoweredUp) (h : PowersUp id (getD w 4 0) up) where
+    (ei : id ≡ number 65536 (getD w 0 0 ∷ getD w 1 0 ∷ getD w 2 0 ∷ getD w 3 0 ∷ [])) (up : PowerUpResult) (h : PowersUp id (getD w 4 0) up) where
   power-up-as : powerUp id (getD w 4 0) ≡ powerUpOrder b
   power-up-as = ap (λ (n : ℕ). powerUp n (getD w 4 0)) ei ∙ power-up-is b w l e
 
@@ -86,7 +86,7 @@ module _ (β : Board) (b w : List ℕ) (l : length b ≡ 10) (e : w ≡ wordsIn 
       let a : powerUpAnswer id ≡ given tt = sym (h .answer) ∙ ap powerUpMeaning q in
       answers-as β _ _ _ power-up-as
       (record {
-        response = λ bytes words. sym (ap plainPrinted a);
+        response = λ bytes words. sym (ap powerUpPrinted a);
         board = h .board ∙ ap (λ (x : Answer Unit). boardFor x id (getD w 4 0)) a ∙ sym (ap (afterPowerUp β id (getD w 4 0)) a);
       })
 
@@ -96,7 +96,7 @@ module _ (β : Board) (b w : List ℕ) (l : length b ≡ 10) (e : w ≡ wordsIn 
   power-up-refused r s q k =
       let a : powerUpAnswer id ≡ refused (numberOf r) (placeOf r) = sym (h .answer) ∙ ap powerUpMeaning q in
       answers-as β _ _ _ power-up-as
-      (record { response = λ bytes words. k bytes words ∙ sym (ap plainPrinted a); board = sym (ap (afterPowerUp β id (getD w 4 0)) a) })
+      (record { response = λ bytes words. k bytes words ∙ sym (ap powerUpPrinted a); board = sym (ap (afterPowerUp β id (getD w 4 0)) a) })
 
 -- ---- C
 
@@ -125,7 +125,7 @@ length-packet : (n : ℕ) (f : Fields) → length (packetBytes n f) ≡ 7
 unfolding firstSix
 length-packet n f = refl
 
-pub triggered : (β : Board) (b out after : List ℕ) (s : Response) (t : Bool) (f : Fields) (g : TriggeredOn) → t ≡ areFields b → t ≡ true → f ≡ fieldsFrom b
+pub triggered : (β : Board) (b out after : List ℕ) (s : Response) (t : Bool) (f : Fields) (g : TriggerResult) → t ≡ areFields b → t ≡ true → f ≡ fieldsFrom b
     → length out ≡ 28 → TriggersOn β f out g after → PrintsWrittenBytes s (writtenMeaning (g .answer))
     → AnswersInBytes β (triggerOrder b) (answered s (g .board)) after
 unfolding printedAnswer boardAfterOrder
@@ -144,7 +144,7 @@ triggered β b out after s t f g et h ef n x k =
 
 -- ---- R and T
 
-module _ (β : Board) (s : Response) (r : Replied) (k : Prints s (outcomePrinted (replyMeaning (r .answer)))) where
+module _ (β : Board) (s : Response) (r : ReplyResult) (k : Prints s (outcomePrinted (replyMeaning (r .answer)))) where
   pub replied : (b bytes : List ℕ) → (length b ≡ 0 → ⊥) → bytes ≡ drop 1 b → Replies β (getD b 0 0) (judgedReply (frameAt β (getD b 0 0)) bytes) r
       → Answers β (replyFrom b) (answered s (r .board))
   unfolding printedAnswer boardAfterOrder

@@ -11,12 +11,12 @@ use Rattle.blocks.specs.Blocks.{headerWords, staticRules, measurementRules, wro
 use Rattle.ftu_list.specs.List.{listBody}
 use Rattle.commands.specs.declared.Command.{Command}
 use Rattle.command_reader.specs.Reading.{commandAnswer, usedOf}
-use Rattle.steps.specs.Steps.{judgedReply, noReply}
-use Rattle.run.specs.Run.{clockedRun, triggerNumber, triggerRules, afterAnswer}
+use Rattle.steps.specs.Steps.{noReply}
+use Rattle.run.specs.Run.{triggerNumber, triggerRules, afterAnswer}
 use Rattle.crate_pass.specs.declared.Outcome.{Outcome}
 use Rattle.board.specs.State.{freshBoard, withRun, powerUpAnswer}
-use Rattle.board.specs.Commands.{boardAnswer, boardAfter}
-use Rattle.board.specs.SlowControl.{fetchRules, frameAt, replyAnswer, boardReplied, sentAnswer}
+use Rattle.board.specs.Commands.{boardAnswer, boardAfter, afterClockStep}
+use Rattle.board.specs.SlowControl.{fetchRules, frameAt, replyAnswer, boardReplied, sentAnswer, judgedAt}
 use Rattle.board.specs.SentOut.{headerOf, dynamicBodyOf, listRules, listOf, failureRules, failureBodyOf}
 use Rattle.board.specs.declared.Board.{Board}
 use Rattle.script.specs.Script.{Line, passedOver, order, malformed}
@@ -31,9 +31,9 @@ use Rattle.exchange.specs.declared.ServedLine.{ServedLine}
 abbrev pub refusalPrinted : ℕ → ℕ → Printed
 refusalPrinted n p = numbers (cond (eqb n 8) (n ∷ p ∷ []) (n ∷ []))
 
-abbrev pub plainPrinted : Answer Unit → Printed
-plainPrinted (given t) = numbers (0 ∷ [])
-plainPrinted (refused n p) = refusalPrinted n p
+abbrev pub powerUpPrinted : Answer Unit → Printed
+powerUpPrinted (given t) = numbers (0 ∷ [])
+powerUpPrinted (refused n p) = refusalPrinted n p
 
 -- "Refused: the number and the words used, and for 8 the place"
 abbrev pub commandPrinted : ℕ → Answer Command → Printed
@@ -58,11 +58,11 @@ abbrev pub blockPrinted : Board → List Rule → List ℕ → Printed
 blockPrinted β own body = duePrinted inWords (lowest (own ++ (wrongId (headerOf β) ∷ [])) (headerWords (headerOf β) ++ body))
 
 unfoldable pub printedAnswer : Board → Order → Printed
-printedAnswer β (powerUp id firmware) = plainPrinted (powerUpAnswer id)
+printedAnswer β (powerUp id firmware) = powerUpPrinted (powerUpAnswer id)
 printedAnswer β (command w) = commandPrinted (usedOf (commandAnswer w)) (boardAnswer β w)
 printedAnswer β (clockStep ticks) = numbers (0 ∷ [])
 printedAnswer β (trigger f) = duePrinted inBytes (lowest (triggerRules (β .run) f) (packetBytes (triggerNumber (β .run)) f))
-printedAnswer β (reply c bytes) = outcomePrinted (replyAnswer β c (judgedReply (frameAt β c) bytes))
+printedAnswer β (reply c bytes) = outcomePrinted (replyAnswer β c (judgedAt β c bytes))
 printedAnswer β (timeUp c) = outcomePrinted (replyAnswer β c noReply)
 printedAnswer β (outstanding c) = duePrinted inBytes (lowest (fetchRules β c) (frameAt β c))
 printedAnswer β (framesSent c) = sentPrinted (sentAnswer β c)
@@ -82,9 +82,9 @@ afterPowerUp β id firmware (refused n p) = β
 unfoldable pub boardAfterOrder : Board → Order → Board
 boardAfterOrder β (powerUp id firmware) = afterPowerUp β id firmware (powerUpAnswer id)
 boardAfterOrder β (command w) = boardAfter β w
-boardAfterOrder β (clockStep ticks) = withRun β (clockedRun (β .run) ticks)
+boardAfterOrder β (clockStep ticks) = afterClockStep β ticks
 boardAfterOrder β (trigger f) = withRun β (afterAnswer (β .run) (lowest (triggerRules (β .run) f) 7))
-boardAfterOrder β (reply c bytes) = boardReplied β c (judgedReply (frameAt β c) bytes)
+boardAfterOrder β (reply c bytes) = boardReplied β c (judgedAt β c bytes)
 boardAfterOrder β (timeUp c) = boardReplied β c noReply
 boardAfterOrder β (outstanding c) = β
 boardAfterOrder β (framesSent c) = β

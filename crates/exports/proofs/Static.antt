@@ -6,7 +6,7 @@ use mathlib.Core.Path.{_≡_, refl, sym, ap, _∙_}
 use mathlib.Core.List.{List, [], _∷_, _++_, append-nil}
 use lib.ListN.{length, take, drop, replicate, length-append, drop-of-length-le}
 use borrow.Author.Tests.{eq-eqb}
-use Rattle.refusals.specs.Tables.{refused, rule}
+use Rattle.refusals.specs.Tables.{refused, rule, answerNumber}
 use Rattle.refusals.specs.Writing.{writtenMeaning}
 use Rattle.refusals.specs.declared.Refusal.{Refusal}
 use Rattle.refusals.specs.declared.Refusal.the-variants.{WrongLength}
@@ -29,7 +29,6 @@ use Rattle.block_reader.specs.declared.BlockRead.the-variants.{Refused as Unrea
 use Rattle.round_trips.specs.Blocks.{ReadsBack}
 use Rattle.round_trips.proofs.Blocks.{written-back}
 use Rattle.board.proofs.Answers.{applies-between}
-use Rattle.command_series.specs.Series.{answerNumber}
 use Rattle.exports.specs.Exports.{headerOfZeros, staticAnswer, StaticRound}
 
 -- 6 and then the rows of a static block: the writer's answer w, and what the lent words `out` became

@@ -19,7 +19,7 @@ use Rattle.run.specs.declared.Run.{Run}
 use Rattle.board.specs.State.{freshBoard, withRun}
 use Rattle.board.specs.Commands.{TriggersOn}
 use Rattle.board.specs.declared.Board.{Board}
-use Rattle.board.specs.declared.TriggeredOn.{TriggeredOn}
+use Rattle.board.specs.declared.TriggerResult.{TriggerResult}
 use Rattle.call_refusals.specs.CallRefusals.{triggersRefusal}
 use Rattle.command_series.specs.Series.{firstRefusal, ObeysAll}
 use Rattle.command_series.specs.declared.AfterCommands.{AfterCommands}
@@ -41,7 +41,7 @@ room : (r : Run) (out : List ℕ) → 7 ≤ length out → triggerAnswer r four 
 unfolding writingBy writingRules firstSix
 room r out h = rows-before (triggerRules r four) _ 7 (rw (le-ltb _ _ h) refl)
 
-module _ (β : Board) (m : ℕ) (out : List ℕ) (t : TriggeredOn) (after : List ℕ) (s : TriggersOn β four out t after) (h : 7 ≤ length out) where
+module _ (β : Board) (m : ℕ) (out : List ℕ) (t : TriggerResult) (after : List ℕ) (s : TriggersOn β four out t after) (h : 7 ≤ length out) where
   abbrev r : Run
   r = β .run
 
@@ -137,7 +137,7 @@ unfolding packetsOf
 at-end first n i out₀ out r g en l m = all-given first n i out₀ out r g en l (ap (λ (k : ℕ). packetsOf k r) (let e : n - i ≡ 0 = omega arith in e))
 
 module _ (first : Run) (n i : ℕ) (out₀ out : List ℕ) (β : Board) (g : TriggersSoFar first n i out₀ out (β .run)) (en : 7 * n ≤ length out₀) (l : i < n)
-    (t : TriggeredOn) (after : List ℕ) (s : TriggersOn β four (take (length out - 7 * i) (drop (7 * i) out)) t after) where
+    (t : TriggerResult) (after : List ℕ) (s : TriggersOn β four (take (length out - 7 * i) (drop (7 * i) out)) t after) where
   abbrev part : List ℕ
   part = drop (7 * i) out
 

@@ -5,7 +5,8 @@ use mathlib.Core.Bool.{false, cond}
 use mathlib.Core.List.{List, [], _∷_, _++_}
 use lib.Dec.{eqb}
 use lib.ListN.{length, take, drop}
-use Rattle.refusals.specs.Tables.{Answer, given, refused, lowest}
+use Rattle.board.specs.Commands.{afterClockStep}
+use Rattle.refusals.specs.Tables.{Answer, given, refused, lowest, answerNumber, isGiven}
 use Rattle.refusals.specs.Writing.{writingBy, outputAfter}
 use Rattle.packets.specs.Packets.{packetBytes, packetAnswer}
 use Rattle.packets.specs.declared.Fields.{Fields}
@@ -17,10 +18,10 @@ use Rattle.round_trips.specs.Blocks.{ReadsBack}
 use Rattle.command_reader.specs.Reading.{commandAnswer}
 use Rattle.run.specs.Run.{clockedRun, triggerNumber, triggerRules, afterTrigger}
 use Rattle.run.specs.declared.Run.{Run}
-use Rattle.board.specs.State.{freshBoard, withRun}
+use Rattle.board.specs.State.{freshBoard}
 use Rattle.board.specs.declared.Board.{Board}
 use Rattle.call_refusals.specs.CallRefusals.{lowerOf, noRoom, passRefusal, packetsRefusal, triggersRefusal}
-use Rattle.command_series.specs.Series.{answerNumber, isGiven, afterCommands, acceptedOf, firstRefusal}
+use Rattle.command_series.specs.Series.{afterCommands, acceptedOf, firstRefusal}
 use Rattle.reply_series.specs.Series.{goodOf, servedOf}
 
 -- ---- what a call leaves. 0 stands for no refusal
@@ -72,12 +73,12 @@ CountsTimeUps w is out r after = GivesCount (firstRefusal 1 (freshBoard 0 0) w) 
 -- the board after clock steps of so many ticks each
 unfoldable pub clockedAll : Board → List ℕ → Board
 clockedAll β [] = β
-clockedAll β (t ∷ ts) = clockedAll (withRun β (clockedRun (β .run) t)) ts
+clockedAll β (t ∷ ts) = clockedAll (afterClockStep β t) ts
 
 -- the timestamps after each of them
 unfoldable pub timestampsOf : Board → List ℕ → List ℕ
 timestampsOf β [] = []
-timestampsOf β (t ∷ ts) = clockedRun (β .run) t .timestamp ∷ timestampsOf (withRun β (clockedRun (β .run) t)) ts
+timestampsOf β (t ∷ ts) = clockedRun (β .run) t .timestamp ∷ timestampsOf (afterClockStep β t) ts
 
 -- after two commands: the timestamps, then the on-time
 unfoldable pub stepsOf : Board → List ℕ → List ℕ

@@ -4,9 +4,9 @@
 ghost use mathlib.Core.Path.{_≡_};
 ghost use Prim.Native.Nat.{_*_, _≤_};
 ghost use lib.ListN.{length};
+ghost use Rattle.refusals.specs.Tables.{isGiven};
 ghost use Rattle.crc.specs.Crc.{crc};
 ghost use Rattle.packets.specs.Packets.{packetAnswer};
-ghost use Rattle.command_series.specs.Series.{isGiven};
 ghost use Rattle.exports.specs.Exports.{commandGiven, CountsAccepted, CountsPass, CountsTimeUps, MakesSteps, GivesTriggers};
 ghost use Rattle.exports.specs.Exports.{goodPackets, CountsPackets, StaticRound};
 ghost use Rattle.exports.specs.CodeShape.{GivesPackets};

@@ -14,7 +14,7 @@ use Rattle.refusals.proofs.Tables.{Exactly, exactly}
 use Rattle.crate_pass.specs.Crate.{begunCrate}
 use Rattle.crate_pass.specs.declared.PassKind.{PassKind}
 use Rattle.crate_pass.specs.declared.Crate.{Crate}
-use Rattle.crate_pass.proofs.Sound.{zeros}
+use Rattle.crate_pass.proofs.Invariant.{zeros}
 use Rattle.four_crates.specs.FourCrates.{crateOf, begunAll, failedAt, failure, recordsFrom, records, recordAt, noSuchRecord, recordAnswer}
 use Rattle.four_crates.specs.declared.Failure.{Failure}
 

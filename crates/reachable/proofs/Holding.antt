@@ -8,12 +8,12 @@ use lib.ListN.{length, getD, replicate}
 use Rattle.numbers.specs.Numbers.{idLimit}
 use Rattle.bounds.specs.Bounds.{boundOf, lowestAbove}
 use Rattle.crate_pass.specs.Crate.{isDone, crateAtPowerUp}
-use Rattle.crate_pass.specs.Sound.{SoundCrate}
+use Rattle.crate_pass.specs.Invariant.{CrateInvariant}
 use Rattle.crate_pass.specs.declared.PassKind.{PassKind}
 use Rattle.crate_pass.specs.declared.PassKind.the-variants.{Reprogramming}
 use Rattle.crate_pass.specs.declared.Crate.{Crate}
-use Rattle.crate_pass.proofs.Sound.{zeros, sound-power-up as sound-up}
-use Rattle.run.proofs.Sound.{sound-power-up as run-up}
+use Rattle.crate_pass.proofs.Invariant.{zeros, sound-power-up as sound-up}
+use Rattle.run.proofs.Invariant.{sound-power-up as run-up}
 use Rattle.four_crates.specs.FourCrates.{noCrate, inPass}
 use Rattle.board.specs.State.{crateAt, freshBoard}
 use Rattle.board.specs.declared.Board.{Board}
@@ -21,14 +21,14 @@ use Rattle.any_order.specs.Steps.{steps}
 use Rattle.any_order.specs.AnyOrder.{wordOf, mostFrames}
 use Rattle.any_order.proofs.Frames.{bound-sent, most-frames}
 use Rattle.any_order.proofs.Runs.{Runs}
-use Rattle.any_order.proofs.Walks.{view}
+use Rattle.any_order.proofs.Follows.{view}
 use Rattle.reachable.specs.Reachable.{Reachable}
 use Rattle.reachable.proofs.OneCall.{false≢true}
 
 -- What is kept by every call: with what is claimed, that each crate with a frame outstanding is in a pass of the last kind begun
 pub record Holds (β : Board) : Type 0 where
   pub reaches : Reachable β
-  pub walks : (c : ℕ) → c < 4 → isDone (crateAt β c) ≡ false → Runs (β .kind) (wordOf (β .block) c) (crateAt β c)
+  pub follows : (c : ℕ) → c < 4 → isDone (crateAt β c) ≡ false → Runs (β .kind) (wordOf (β .block) c) (crateAt β c)
 
 pub holds-reachable : (β : Board) → Holds β → Reachable β
 holds-reachable β h = h .reaches
@@ -63,8 +63,8 @@ holds-power-up id firmware i f =
         active = record { four = refl; within = λ c. rw (zeros 4 c) (omega arith) };
         four = refl;
         number = λ c h. rw (crate-up c h) zero-le;
-        crates = λ c h. subst (SoundCrate Reprogramming) (sym (crate-up c h)) sound-up;
+        crates = λ c h. subst (CrateInvariant Reprogramming) (sym (crate-up c h)) sound-up;
         apart = refl;
       };
-      walks = λ c h d. false≢true (sym d ∙ ap isDone (crate-up c h));
+      follows = λ c h d. false≢true (sym d ∙ ap isDone (crate-up c h));
     }

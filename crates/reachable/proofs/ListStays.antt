@@ -19,7 +19,7 @@ use Rattle.blocks.specs.Blocks.{headerWords}
 use Rattle.ftu_list.specs.List.{entryWords, listHead, listBody}
 use Rattle.ftu_list.specs.declared.Entry.{Entry}
 use Rattle.crate_pass.specs.Crate.{asEntries, entriesIn, isDone, begunCrate}
-use Rattle.crate_pass.specs.Sound.{IsCode}
+use Rattle.crate_pass.specs.Invariant.{IsCode}
 use Rattle.crate_pass.specs.declared.PassKind.the-variants.{Reprogramming}
 use Rattle.crate_pass.specs.declared.Crate.{Crate}
 use Rattle.crate_pass.proofs.Entries.{entries-stay}

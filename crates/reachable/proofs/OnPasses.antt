@@ -18,14 +18,14 @@ use Rattle.commands.specs.declared.Command.the-variants.{Write, Ping}
 use Rattle.steps.specs.declared.Judged.{Judged}
 use Rattle.steps.proofs.PingReply.{ping-below}
 use Rattle.run.specs.Run.{isRunning}
-use Rattle.run.specs.Sound.{SoundRun}
-use Rattle.run.proofs.Sound.{sound-refreshed}
+use Rattle.run.specs.Invariant.{RunInvariant}
+use Rattle.run.proofs.Invariant.{sound-refreshed}
 use Rattle.crate_pass.specs.Crate.{isDone, crateAfter}
-use Rattle.crate_pass.specs.Sound.{SoundCrate}
+use Rattle.crate_pass.specs.Invariant.{CrateInvariant}
 use Rattle.crate_pass.specs.declared.PassKind.{PassKind}
 use Rattle.crate_pass.specs.declared.PassKind.the-variants.{Reprogramming}
 use Rattle.crate_pass.specs.declared.Crate.{Crate}
-use Rattle.crate_pass.proofs.Sound.{sound-begun, sound-after}
+use Rattle.crate_pass.proofs.Invariant.{sound-begun, sound-after}
 use Rattle.four_crates.specs.FourCrates.{noCrate, crateOf, inPass, begunAll, servedAnswer}
 use Rattle.board.specs.State.{crateAt, activeWords, withCrates}
 use Rattle.command_reader.specs.Reading.{blockOf}
@@ -38,7 +38,7 @@ use Rattle.any_order.proofs.Begun.{Begun, begun-after}
 use Rattle.board.proofs.Serving.{board-low, board-high}
 use Rattle.any_order.proofs.Served.{crateStep}
 use Rattle.any_order.proofs.Runs.{Runs, step-runs}
-use Rattle.reachable.specs.Reachable.{SoundFlags}
+use Rattle.reachable.specs.Reachable.{FlagsInvariant}
 use Rattle.reachable.proofs.Accepted.{block-length, block-within}
 use Rattle.reachable.proofs.OneCall.{false≢true}
 use Rattle.reachable.proofs.Holding.{Holds, runs-number}
@@ -46,8 +46,8 @@ use Rattle.reachable.proofs.Holding.{Holds, runs-number}
 -- ---- a pass that has just begun
 
 -- each crate is sound
-sound-all : (last kind : PassKind) (words : List ℕ) (cs : List Crate) → ((c : ℕ) → c < 4 → SoundCrate last (crateOf cs c))
-    → (c : ℕ) → c < 4 → SoundCrate kind (crateOf (begunAll kind words cs) c)
+sound-all : (last kind : PassKind) (words : List ℕ) (cs : List Crate) → ((c : ℕ) → c < 4 → CrateInvariant last (crateOf cs c))
+    → (c : ℕ) → c < 4 → CrateInvariant kind (crateOf (begunAll kind words cs) c)
 unfolding begunAll
 sound-all last kind words cs s zero h = sound-begun last kind (getD words 0 0) (crateOf cs 0) (s 0 (omega arith))
 sound-all last kind words cs s (suc zero) h = sound-begun last kind (getD words 1 0) (crateOf cs 1) (s 1 (omega arith))
@@ -57,11 +57,11 @@ sound-all last kind words cs s (suc (suc (suc (suc c)))) h = absurd (omega arith
 
 -- what a write or a ping stores holds, with what a pass that has begun has
 record Stored (γ : Board) : Type 0 where
-  run : SoundRun (γ .run)
+  run : RunInvariant (γ .run)
   length-block : length (γ .block) ≡ 436
   within : lowestAbove boundOf 0 (γ .block) ≡ 436
-  active : SoundFlags (γ .active)
-  crates : (c : ℕ) → c < 4 → SoundCrate (γ .kind) (crateAt γ c)
+  active : FlagsInvariant (γ .active)
+  crates : (c : ℕ) → c < 4 → CrateInvariant (γ .kind) (crateAt γ c)
 
 holds-begun : (β γ : Board) → Holds β → γ .identity ≡ β .identity → Begun γ → Stored γ → Holds γ
 holds-begun β γ h e b s =
@@ -78,7 +78,7 @@ holds-begun β γ h e b s =
         crates = s .crates;
         apart = rw (b .still);
       };
-      walks = λ n m d. b .runs n m;
+      follows = λ n m d. b .runs n m;
     }
 
 -- the state after an accepted command that begins a pass
@@ -102,7 +102,7 @@ holds-write β w e h =
     })
 
 -- the words of active flags, 0x1B0 to 0x1B3, are within their bounds
-flags-within : (block : List ℕ) → lowestAbove boundOf 0 block ≡ 436 → SoundFlags (activeWords block)
+flags-within : (block : List ℕ) → lowestAbove boundOf 0 block ≡ 436 → FlagsInvariant (activeWords block)
 unfolding boundOf
 flags-within block e = record { four = refl; within = λ c. let l = at c in omega arith }
   where
@@ -166,7 +166,7 @@ at-set cs c k l P new n old = go (eqb c n) refl
     go false e = subst (P n) (sym (getD-set-other cs c n k noCrate (λ q. eqb-false c n e (sym q)))) old
 
 -- the crate c moved on in its pass
-holds-crate : (β : Board) (c : ℕ) (k : Crate) → c < 4 → isDone (crateAt β c) ≡ false → Runs (β .kind) (wordOf (β .block) c) k → SoundCrate (β .kind) k
+holds-crate : (β : Board) (c : ℕ) (k : Crate) → c < 4 → isDone (crateAt β c) ≡ false → Runs (β .kind) (wordOf (β .block) c) k → CrateInvariant (β .kind) k
     → Holds β → Holds (withCrates β (set (β .crates) c k))
 unfolding withCrates
 holds-crate β c k h d r sound s =
@@ -184,10 +184,10 @@ holds-crate β c k h d r sound s =
         number = λ n m.
             at-set (β .crates) c k l (λ i j. j .sent ≤ mostFrames (β .kind) (wordOf (β .block) i))
             (runs-number (β .kind) (wordOf (β .block) c) k r) n (q .number n m);
-        crates = λ n m. at-set (β .crates) c k l (λ i j. SoundCrate (β .kind) j) sound n (q .crates n m);
+        crates = λ n m. at-set (β .crates) c k l (λ i j. CrateInvariant (β .kind) j) sound n (q .crates n m);
         apart = rw (pass-apart (isRunning (β .run)) (β .crates) c h d (q .apart));
       };
-      walks = λ n m. at-set (β .crates) c k l (λ i j. isDone j ≡ false → Runs (β .kind) (wordOf (β .block) i) j) (λ e. r) n (s .walks n m);
+      follows = λ n m. at-set (β .crates) c k l (λ i j. isDone j ≡ false → Runs (β .kind) (wordOf (β .block) i) j) (λ e. r) n (s .follows n m);
     }
 
 pub replied-done : (β : Board) (c : ℕ) (h : Judged) → c < 4 → isDone (crateAt β c) ≡ true → boardReplied β c h ≡ β
@@ -220,4 +220,4 @@ holds-event β c e s = go (ltb c 4) refl (isDone (crateAt β c)) refl
     go true p false q =
         let l : c < 4 = ltb-true _ _ p in
         let sound = sound-after (β .kind) (wordOf (β .block) c) (crateAt β c) (judgedOn β c e) (event-below β c e) (s .reaches .crates c l) in
-        subst Holds (sym (board-low β c (judgedOn β c e) (omega arith))) (holds-crate β c (next β c e) l q (runs-next β c e (s .walks c l q)) sound s)
+        subst Holds (sym (board-low β c (judgedOn β c e) (omega arith))) (holds-crate β c (next β c e) l q (runs-next β c e (s .follows c l q)) sound s)

@@ -9,9 +9,9 @@ use Rattle.packets.specs.declared.Fields.{Fields}
 use Rattle.commands.specs.declared.Command.the-variants.{Start}
 use Rattle.commands.specs.declared.RunLength.{RunLength}
 use Rattle.run.specs.Run.{isRunning, started, stopped, clockedRun, triggerAnswer, afterTrigger, afterAnswer}
-use Rattle.run.specs.Sound.{SoundRun}
+use Rattle.run.specs.Invariant.{RunInvariant}
 use Rattle.run.specs.declared.Run.{Run}
-use Rattle.run.proofs.Sound.{sound-started, sound-stopped, sound-clocked, sound-triggered}
+use Rattle.run.proofs.Invariant.{sound-started, sound-stopped, sound-clocked, sound-triggered}
 use Rattle.four_crates.specs.FourCrates.{inPass}
 use Rattle.board.specs.State.{withRun, statusOf}
 use Rattle.board.specs.Commands.{boardAnswer, afterTriggerOn}
@@ -24,7 +24,7 @@ use Rattle.reachable.proofs.Holding.{Holds}
 
 -- ---- a change of the run alone
 
-holds-run : (β : Board) (r : Run) → Holds β → SoundRun r → (isRunning r && inPass (β .crates)) ≡ false → Holds (withRun β r)
+holds-run : (β : Board) (r : Run) → Holds β → RunInvariant r → (isRunning r && inPass (β .crates)) ≡ false → Holds (withRun β r)
 unfolding withRun
 holds-run β r h s a =
     let k = h .reaches in
@@ -41,7 +41,7 @@ holds-run β r h s a =
         crates = k .crates;
         apart = a;
       };
-      walks = h .walks;
+      follows = h .follows;
     }
 
 and-false : (a b : Bool) → b ≡ false → (a && b) ≡ false
@@ -72,7 +72,8 @@ holds-trigger β f out h = go (triggerAnswer (β .run) f out) refl
   where
     go : (a : Answer ℕ) → triggerAnswer (β .run) f out ≡ a → Holds (withRun β (afterAnswer (β .run) a))
     go (given n) e =
-        holds-run β (afterTrigger (β .run)) h (subst (λ (a : Answer ℕ). SoundRun (afterAnswer (β .run) a)) e (sound-triggered (β .run) (h .reaches .run) f out))
+        holds-run β (afterTrigger (β .run)) h
+        (subst (λ (a : Answer ℕ). RunInvariant (afterAnswer (β .run) a)) e (sound-triggered (β .run) (h .reaches .run) f out))
         (and-false (isRunning (afterTrigger (β .run))) (inPass (β .crates))
         (running-apart (isRunning (β .run)) (inPass (β .crates)) (h .reaches .apart) (accepted-running (β .run) f out n e)))
     go (refused n p) e = h

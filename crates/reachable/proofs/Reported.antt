@@ -8,7 +8,7 @@ use lib.ListN.{length, getD}
 use borrow.Author.Tests.{lt-ltb}
 use Rattle.ftu_list.specs.declared.Entry.{Entry}
 use Rattle.crate_pass.specs.Crate.{silent}
-use Rattle.crate_pass.specs.Sound.{IsCode, CallsKept, DnaKept}
+use Rattle.crate_pass.specs.Invariant.{IsCode, CallsKept, DnaKept}
 use Rattle.crate_pass.specs.declared.Crate.{Crate}
 use Rattle.crate_pass.proofs.Entries.{entry, entry-at}
 use Rattle.four_crates.specs.FourCrates.{failedAt, records, recordAt}

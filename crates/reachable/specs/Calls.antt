@@ -7,11 +7,9 @@ use Rattle.packets.specs.declared.Fields.{Fields}
 use Rattle.commands.specs.Commands as commands
 use Rattle.commands.specs.declared.Command.{Command}
 use Rattle.commands.specs.declared.Command.the-variants.{Read, Write, Start, Stop, Ping, CrateReset}
-use Rattle.run.specs.Run.{clockedRun}
-use Rattle.steps.specs.Steps.{judgedReply, noReply}
-use Rattle.board.specs.State.{withRun}
-use Rattle.board.specs.Commands.{boardAnswer, boardAfter, afterTriggerOn}
-use Rattle.board.specs.SlowControl.{frameAt, boardReplied}
+use Rattle.steps.specs.Steps.{noReply}
+use Rattle.board.specs.Commands.{boardAnswer, boardAfter, afterTriggerOn, afterClockStep}
+use Rattle.board.specs.SlowControl.{boardReplied, judgedAt}
 use Rattle.board.specs.declared.Board.{Board}
 
 -- the calls that take a state to the next, with what the caller gives and lends; the others change no state
@@ -25,9 +23,9 @@ pub data Call : Type 0 where
 -- the next state, as the calls promise it
 unfoldable pub afterCall : Board → Call → Board
 afterCall β (command words) = boardAfter β words
-afterCall β (clockStep ticks) = withRun β (clockedRun (β .run) ticks)
+afterCall β (clockStep ticks) = afterClockStep β ticks
 afterCall β (trigger fields out) = afterTriggerOn β fields out
-afterCall β (reply c bytes) = boardReplied β c (judgedReply (frameAt β c) bytes)
+afterCall β (reply c bytes) = boardReplied β c (judgedAt β c bytes)
 afterCall β (timeUp c) = boardReplied β c noReply
 
 abbrev pub afterAll : Board → List Call → Board

@@ -8,15 +8,15 @@ use Rattle.numbers.specs.Numbers.{idLimit}
 use Rattle.bounds.specs.Bounds.{boundOf, lowestAbove}
 use Rattle.configuration.specs.Configuration.{activeWord}
 use Rattle.run.specs.Run.{isRunning}
-use Rattle.run.specs.Sound.{SoundRun}
-use Rattle.crate_pass.specs.Sound.{SoundCrate}
+use Rattle.run.specs.Invariant.{RunInvariant}
+use Rattle.crate_pass.specs.Invariant.{CrateInvariant}
 use Rattle.four_crates.specs.FourCrates.{inPass}
 use Rattle.board.specs.State.{crateAt}
 use Rattle.board.specs.declared.Board.{Board}
 use Rattle.any_order.specs.AnyOrder.{mostFrames}
 
 -- 01, Blocks sent out: "the four active words as stored when the ping began", each then within its bound
-pub record SoundFlags (words : List ℕ) : Type 0 where
+pub record FlagsInvariant (words : List ℕ) : Type 0 where
   pub four : length words ≡ 4
   pub within : (c : ℕ) → getD words c 0 ≤ 0x03FF
 
@@ -25,14 +25,14 @@ pub record Reachable (β : Board) : Type 0 where
   pub id : β .identity .«board_id» < idLimit
   pub firmware : β .identity .«firmware_id» < 65536
   -- 01, Command words, and Trigger packets: the three counters, and what they are while a run is on and while none is
-  pub run : SoundRun (β .run)
+  pub run : RunInvariant (β .run)
   -- 01, The configuration: each stored word is within its bound
   pub length-block : length (β .block) ≡ 436
   pub within : lowestAbove boundOf 0 (β .block) ≡ 436
-  pub active : SoundFlags (β .active)
+  pub active : FlagsInvariant (β .active)
   -- 01, Slow control: four crates; "nine per active board", and thirty in a ping; places, tries, records and list entries of the last pass begun
   pub four : length (β .crates) ≡ 4
   pub number : (c : ℕ) → c < 4 → crateAt β c .sent ≤ mostFrames (β .kind) (activeWord (β .block) c)
-  pub crates : (c : ℕ) → c < 4 → SoundCrate (β .kind) (crateAt β c)
+  pub crates : (c : ℕ) → c < 4 → CrateInvariant (β .kind) (crateAt β c)
   -- 01, Command words: "The board is idle, running, or in a pass"
   pub apart : (isRunning (β .run) && inPass (β .crates)) ≡ false

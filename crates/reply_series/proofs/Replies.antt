@@ -15,12 +15,12 @@ use Rattle.crate_pass.specs.Crate.{replyMeaning, Serves}
 use Rattle.crate_pass.specs.declared.PassKind.{PassKind}
 use Rattle.crate_pass.specs.declared.Outcome.{Outcome}
 use Rattle.crate_pass.specs.declared.Crate.{Crate}
-use Rattle.crate_pass.specs.declared.CrateServed.{CrateServed}
+use Rattle.crate_pass.specs.declared.CrateResult.{CrateResult}
 use Rattle.four_crates.specs.FourCrates.{crateOf}
 use Rattle.board.specs.State.{withCrates}
 use Rattle.board.specs.SlowControl.{frameAt, replyAnswer, boardReplied, Replies}
 use Rattle.board.specs.declared.Board.{Board}
-use Rattle.board.specs.declared.Replied.{Replied}
+use Rattle.board.specs.declared.ReplyResult.{ReplyResult}
 use Rattle.board.proofs.Serving.{answer-high, board-high, answer-low, board-low}
 use Rattle.command_series.proofs.Parts.{past, one-left}
 use Rattle.reply_series.specs.Series.{goodOutcome, goodOf, withPass}
@@ -62,7 +62,7 @@ module _ (items : List ℕ) (n i : ℕ) (l : i < n) where
         omega arith
 
     -- on the whole board
-    pub turn-replied : (r : Replied) → Replies β number h r → (good g : ℕ) → g ≡ goodOutcome (replyMeaning (r .answer))
+    pub turn-replied : (r : ReplyResult) → Replies β number h r → (good g : ℕ) → g ≡ goodOutcome (replyMeaning (r .answer))
         → good + g + goodOf (n - (i + 1)) (r .board) (drop (29 * (i + 1)) items) ≡ good + goodOf (n - i) β (drop (29 * i) items)
     turn-replied r s = item-turn (replyMeaning (r .answer)) (r .board) (s .answer) (s .board)
 
@@ -81,7 +81,7 @@ module _ (items : List ℕ) (n i : ℕ) (l : i < n) where
 
     pub turn-served : number ≤ 3 → (k : ℕ) → k ≡ 28 → (h : Judged)
         → h ≡ judgedReply (stepFrame block number (crateOf cs number .board) (crateOf cs number .code)) (take k (drop (29 * i + 1) items))
-        → (w : ℕ) → w ≡ activeWord block number → (r : CrateServed) → Serves kind w (crateOf cs number) h r
+        → (w : ℕ) → w ≡ activeWord block number → (r : CrateResult) → Serves kind w (crateOf cs number) h r
         → (g : ℕ) → g ≡ goodOutcome (replyMeaning (r .answer)) → (cs′ : List Crate) (good′ : ℕ) → cs′ ≡ set cs number (r .state) → good′ ≡ good + g
         → (β : Board) → Left good′ (i + 1) cs′ β ≡ Left good i cs β
     unfolding withPass withCrates frameAt

@@ -6,12 +6,12 @@ use native.Mathlib.Omega.{arith}
 use mathlib.Core.Path.{_≡_, ap, _∙_}
 use mathlib.Core.List.{List}
 use lib.ListN.{length, getD, drop, drop-of-length-le}
+use Rattle.refusals.specs.Tables.{isGiven}
 use Rattle.steps.specs.Steps.{noReply}
 use Rattle.crate_pass.specs.Crate.{replyMeaning}
 use Rattle.board.specs.SlowControl.{replyAnswer, boardReplied, Replies}
 use Rattle.board.specs.declared.Board.{Board}
-use Rattle.board.specs.declared.Replied.{Replied}
-use Rattle.command_series.specs.Series.{isGiven}
+use Rattle.board.specs.declared.ReplyResult.{ReplyResult}
 use Rattle.command_series.proofs.Parts.{next-of}
 use Rattle.reply_series.specs.Series.{servedOf}
 
@@ -21,7 +21,7 @@ time-up-start crates β = zero-add (servedOf β crates)
 -- `served` of the first i were served, and left the board β
 module _ (crates : List ℕ) (i : ℕ) (β : Board) (served total : ℕ) (inv : served + servedOf β (drop i crates) ≡ total) where
   -- one more
-  pub time-up-turn : i < length crates → (r : Replied) → Replies β (getD crates i 0) noReply r → (g : ℕ) → g ≡ isGiven (replyMeaning (r .answer))
+  pub time-up-turn : i < length crates → (r : ReplyResult) → Replies β (getD crates i 0) noReply r → (g : ℕ) → g ≡ isGiven (replyMeaning (r .answer))
       → served + g + servedOf (r .board) (drop (i + 1) crates) ≡ total
   unfolding servedOf
   time-up-turn l r s g eg =

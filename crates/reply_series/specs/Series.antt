@@ -3,16 +3,15 @@ use Prim.Native.Nat.{ℕ, zero, suc, _+_, _/_}
 use mathlib.Core.Path.{_≡_}
 use mathlib.Core.List.{List, [], _∷_}
 use lib.ListN.{length, getD, take, drop}
-use Rattle.refusals.specs.Tables.{Answer, given, refused}
-use Rattle.steps.specs.Steps.{judgedReply, noReply}
+use Rattle.refusals.specs.Tables.{Answer, given, refused, isGiven}
+use Rattle.steps.specs.Steps.{noReply}
 use Rattle.steps.specs.declared.Judged.{Judged}
 use Rattle.crate_pass.specs.declared.PassKind.{PassKind}
 use Rattle.crate_pass.specs.declared.Crate.{Crate}
 use Rattle.crate_pass.specs.declared.Outcome.{Outcome}
 use Rattle.crate_pass.specs.declared.Outcome.the-variants.{Good, Again, BoardFailed}
-use Rattle.board.specs.SlowControl.{frameAt, replyAnswer, boardReplied}
+use Rattle.board.specs.SlowControl.{replyAnswer, boardReplied, judgedAt}
 use Rattle.board.specs.declared.Board.{Board}
-use Rattle.command_series.specs.Series.{isGiven}
 
 -- 1 for a good answer, else 0
 abbrev pub goodOutcome : Answer Outcome → ℕ
@@ -23,7 +22,7 @@ goodOutcome (refused n p) = 0
 
 -- the first item judged, 29 bytes: a crate's number, and a reply of 28 bytes
 abbrev pub judgedFirst : Board → List ℕ → Judged
-judgedFirst β items = judgedReply (frameAt β (getD items 0 0)) (take 28 (drop 1 items))
+judgedFirst β items = judgedAt β (getD items 0 0) (take 28 (drop 1 items))
 
 -- how many of the first n items get a good answer, each on the board that the one before left
 unfoldable pub goodOf : ℕ → Board → List ℕ → ℕ

@@ -3,8 +3,8 @@
 ghost use mathlib.Core.Path.{_≡_};
 ghost use Prim.Native.Nat.{_/_, _≤_};
 ghost use lib.ListN.{length};
+ghost use Rattle.refusals.specs.Tables.{isGiven};
 ghost use Rattle.crate_pass.specs.Crate.{replyMeaning};
-ghost use Rattle.command_series.specs.Series.{isGiven};
 ghost use Rattle.reply_series.specs.Series.{goodOutcome, goodOf, CountsGood, servedOf};
 use board::Board;
 use configuration::active_word;

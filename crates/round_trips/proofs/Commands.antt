@@ -66,8 +66,8 @@ module _ (b rest : List ℕ) where
   block-long Ping k = refl
   block-long (CrateReset n) k = refl
 
-  marked : (c : Command) → Clear (writeRules c b) → CountFits c → FirstWordsRead (written c) (given c)
-  marked c k f = record { five = omega arith; mark = refl; named = named c k f }
+  first-words-read : (c : Command) → Clear (writeRules c b) → CountFits c → FirstWordsRead (written c) (given c)
+  first-words-read c k f = record { five = omega arith; first-word = refl; named = named c k f }
 
   long : (c : Command) → Clear (writeRules c b) → 5 + blockLength c ≤ length (written c)
   long c k = let e = block-long c k in rw length-append (omega arith)
@@ -76,13 +76,13 @@ module _ (b rest : List ℕ) where
   other : (c : Command) → Clear (writeRules c b) → CountFits c → noEvents c ≡ false → isWrite c ≡ false
       → given (taken c (5 + blockLength c)) ≡ commandAnswer (written c)
   unfolding spareSet
-  other c k f n v = read-other (written c) c (marked c k f) refl (long c k) n (5 + blockLength c) refl v
+  other c k f n v = read-other (written c) c (first-words-read c k f) refl (long c k) n (5 + blockLength c) refl v
 
   pub read-written : (c : Command) → Clear (writeRules c b) → CountFits c → given (taken c (5 + blockLength c)) ≡ commandAnswer (written c)
   unfolding spareSet
   read-written (Read kind) k f = other (Read kind) k f refl refl
   read-written Write k f =
-      read-write (written Write) Write (marked Write k f) refl (long Write k) refl 441 refl refl
+      read-write (written Write) Write (first-words-read Write k f) refl (long Write k) refl 441 refl refl
       (rw (take-at b rest 436 (lent-length boundOf 436 b k)) (lent-within boundOf 436 b k))
   read-written (Start Endless) k f = other (Start Endless) k f refl refl
   read-written (Start (Counted x)) k f = other (Start (Counted x)) k f (k .0) refl

@@ -2,4 +2,4 @@
 pub mod Laws
 pub mod Tables
 pub mod Numbering
-pub mod Sound
+pub mod Invariant

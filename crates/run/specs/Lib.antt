@@ -1,3 +1,3 @@
 -- What the contracts cite.
 pub mod Run
-pub mod Sound
+pub mod Invariant

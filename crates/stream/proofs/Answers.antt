@@ -11,7 +11,7 @@ use lib.Dec.{T, ltb}
 use lib.ListN.{length, take, drop, set, getD, replicate, length-drop, length-replicate}
 use lib.Seq.{drop-cons, drop-drop, take-all, take-at, drop-nil}
 use borrow.Author.Tests.{ltb-false, lt-ltb, le-ltb}
-use Rattle.refusals.specs.Tables.{Answer, given, refused, Rule}
+use Rattle.refusals.specs.Tables.{Answer, given, refused, Rule, answerNumber}
 use Rattle.refusals.specs.Writing.{writingBy, writingRules, writing, outputAfter, Wrote}
 use Rattle.refusals.specs.declared.Written.{Written}
 use Rattle.refusals.proofs.Tables.{Applies, refused-applies, refused-more}
@@ -27,7 +27,7 @@ use Rattle.board.specs.State.{statusOf, freshBoard, powerUpAnswer, boardFor}
 use Rattle.board.specs.Commands.{boardAfter, Obeys}
 use Rattle.board.specs.declared.Board.{Board}
 use Rattle.board.specs.declared.CommandResult.{CommandResult}
-use Rattle.stream.specs.Stream.{ranOut, numberGiven, stops, numberFor, bytesAfter, answersTo, answersOn, padded, listed}
+use Rattle.stream.specs.Stream.{ranOut, stops, numberFor, bytesAfter, answersTo, answersOn, listingFrom, listed}
 use Rattle.stream.specs.declared.Listing.{Listing}
 
 -- ---- a command that does not stop the listing has at least five words
@@ -47,13 +47,13 @@ applies-stops (r ∷ rs) n p t (inr h) = applies-stops rs n p (both-true (stops 
 
 module _ (w : List ℕ) (s : Status) where
   -- a command that its words refuse
-  words-stop : (n p : ℕ) → commandAnswer w ≡ refused n p → stops (numberGiven (decided w s)) ≡ true
+  words-stop : (n p : ℕ) → commandAnswer w ≡ refused n p → stops (answerNumber (decided w s)) ≡ true
   unfolding commandAnswer decided readRules
   words-stop n p e =
-      ap (λ (a : Answer _). stops (numberGiven a)) (refused-more (readRules w) (stateRules (commandIn w) s) _ (commandIn w) n p e)
+      ap (λ (a : Answer _). stops (answerNumber a)) (refused-more (readRules w) (stateRules (commandIn w) s) _ (commandIn w) n p e)
       ∙ applies-stops (readRules w) n p tt (refused-applies (readRules w) _ n p e)
 
-  pub five-used : stops (numberGiven (decided w s)) ≡ false → 5 ≤ usedOf (commandAnswer w)
+  pub five-used : stops (answerNumber (decided w s)) ≡ false → 5 ≤ usedOf (commandAnswer w)
   five-used h = go (commandAnswer w) refl
     where
       go : (a : Answer Taken) → commandAnswer w ≡ a → 5 ≤ usedOf a
@@ -141,8 +141,8 @@ drop-replicate (suc n) zero = ap (λ (k : ℕ). replicate k 0) (let e : 0 ≡ 0 
 drop-replicate (suc n) (suc m) = drop-replicate n m ∙ ap (λ (k : ℕ). replicate k 0) (let e : m - n ≡ suc m - suc n = omega arith in e)
 
 stored-padded : (first n : ℕ) (l answers : List ℕ) → length l ≡ n → answers ≡ take n l ++ drop n (replicate 6554 0)
-    → record { first = first; count = n; answers = answers } ≡ padded first l
-unfolding padded
+    → record { first = first; count = n; answers = answers } ≡ listingFrom first l
+unfolding listingFrom
 stored-padded first n l answers e q =
     let a : answers ≡ l ++ replicate (6554 - length l) 0 =
     q ∙ ap₂ (λ (x y : List ℕ). x ++ y) (take-all n l (omega arith)) (drop-replicate n 6554 ∙ ap (λ (k : ℕ). replicate (6554 - k) 0) (sym e)) in
@@ -185,7 +185,7 @@ module _ (bytes : List ℕ) (count : ℕ) (β : Board) (answers rest : List ℕ)
   length-rest = ap length (g .words) ∙ length-drop (g .at) (wordsIn bytes) ∙ ap (λ (k : ℕ). k - g .at) (length-words bytes)
 
   -- no byte is left
-  pub answered-end : length rest + length bytes % 2 ≡ 0 → record { first = 1; count = count; answers = answers } ≡ padded 1 (answersOn bytes)
+  pub answered-end : length rest + length bytes % 2 ≡ 0 → record { first = 1; count = count; answers = answers } ≡ listingFrom 1 (answersOn bytes)
   answered-end h =
       let r = length-rest in
       let w = g .within in
@@ -200,7 +200,7 @@ pub record Turn (bytes : List ℕ) (count : ℕ) (β : Board) (answers rest : Li
   pub before : Answered bytes count β answers rest
   pub more : 0 < length rest + length bytes % 2
   pub obeys : Obeys β rest d
-  pub number : n ≡ numberGiven (answerMeaning (d .answer))
+  pub number : n ≡ answerNumber (answerMeaning (d .answer))
 
 module _ (bytes : List ℕ) (count : ℕ) (β : Board) (answers rest : List ℕ) (d : CommandResult) (n : ℕ) (t : Turn bytes count β answers rest d n) where
   at : ℕ
@@ -218,7 +218,7 @@ module _ (bytes : List ℕ) (count : ℕ) (β : Board) (answers rest : List ℕ)
   words-part = t .before .words ∙ sym (words-left (t .before .at) bytes)
 
   number-part : n ≡ numberFor β part
-  number-part = t .number ∙ ap numberGiven (t .obeys .answer) ∙ ap (λ (v : List ℕ). numberGiven (decided v (statusOf β))) words-part
+  number-part = t .number ∙ ap answerNumber (t .obeys .answer) ∙ ap (λ (v : List ℕ). answerNumber (decided v (statusOf β))) words-part
 
   after : List ℕ
   after = answersTo (length bytes - suc count) (ranOut (boardAfter β (wordsIn part))) (bytesAfter part)
@@ -249,7 +249,7 @@ module _ (bytes : List ℕ) (count : ℕ) (β : Board) (answers rest : List ℕ)
       ∙ copy-more (answersOn bytes) (replicate 6554 0) count longer (rw (length-replicate {A = ℕ} 6554 0) room)
 
   -- it is the last
-  pub answered-last : stops n ≡ true → record { first = 1; count = count + 1; answers = set answers count n } ≡ padded 1 (answersOn bytes)
+  pub answered-last : stops n ≡ true → record { first = 1; count = count + 1; answers = set answers count n } ≡ listingFrom 1 (answersOn bytes)
   answered-last s =
       let e : drop (suc count) (answersOn bytes) ≡ [] = part-after (answersOn bytes) count n _ answers-part ∙ rw s refl in
       let m : length (answersOn bytes) - suc count ≡ 0 = sym (length-drop (suc count) (answersOn bytes)) ∙ ap length e in
@@ -261,7 +261,7 @@ module _ (bytes : List ℕ) (count : ℕ) (β : Board) (answers rest : List ℕ)
     used-enough : 5 ≤ d .used
     used-enough =
         rw (t .obeys .used)
-        (five-used rest (statusOf β) (ap (λ (a : Answer Command). stops (numberGiven a)) (sym (t .obeys .answer)) ∙ ap stops (sym (t .number)) ∙ s))
+        (five-used rest (statusOf β) (ap (λ (a : Answer Command). stops (answerNumber a)) (sym (t .obeys .answer)) ∙ ap stops (sym (t .number)) ∙ s))
 
     used-there : d .used ≤ length rest
     used-there = rw (t .obeys .used) (used-fits rest)
@@ -316,19 +316,19 @@ words-written bytes out after r short size w =
 
 module _ (bytes : List ℕ) where
   pub listed-long : 65536 < length bytes → record { first = 0; count = 1; answers = set (replicate 6554 0) 0 6 } ≡ listed bytes
-  unfolding listed padded
+  unfolding listed listingFrom
   listed-long h = rw (lt-ltb 65536 (length bytes) h) refl
 
-  pub listed-short : length bytes ≤ 65536 → padded 1 (answersOn bytes) ≡ listed bytes
+  pub listed-short : length bytes ≤ 65536 → listingFrom 1 (answersOn bytes) ≡ listed bytes
   unfolding listed
   listed-short h = rw (le-ltb 65536 (length bytes) h) refl
 
   -- and there is room for its answers
   most-listed : listed bytes .count ≤ 6554
-  unfolding listed padded answersOn
+  unfolding listed listingFrom answersOn
   most-listed = go (ltb 65536 (length bytes)) refl
     where
-      go : (t : Bool) → ltb 65536 (length bytes) ≡ t → cond t (padded 0 (6 ∷ [])) (padded 1 (answersOn bytes)) .count ≤ 6554
+      go : (t : Bool) → ltb 65536 (length bytes) ≡ t → cond t (listingFrom 0 (6 ∷ [])) (listingFrom 1 (answersOn bytes)) .count ≤ 6554
       go true h = omega arith
       go false h =
           let s : length bytes ≤ 65536 = ltb-false 65536 (length bytes) h in
@@ -337,10 +337,10 @@ module _ (bytes : List ℕ) where
           g
 
   least-listed : listed bytes .first ≤ 1
-  unfolding listed padded
+  unfolding listed listingFrom
   least-listed = go (ltb 65536 (length bytes))
     where
-      go : (t : Bool) → cond t (padded 0 (6 ∷ [])) (padded 1 (answersOn bytes)) .first ≤ 1
+      go : (t : Bool) → cond t (listingFrom 0 (6 ∷ [])) (listingFrom 1 (answersOn bytes)) .first ≤ 1
       go true = omega arith
       go false = omega arith
 

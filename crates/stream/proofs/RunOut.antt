@@ -11,7 +11,7 @@ use borrow.Author.Tests.{ltb-true, ltb-false, leb-false, leb-true, le-leb, le-lt
 use Rattle.configuration.specs.Configuration.{activeWord}
 use Rattle.steps.specs.Steps.{noReply}
 use Rattle.run.specs.Run.{isRunning}
-use Rattle.crate_pass.specs.Crate.{serves, firstServed, nextBoard, placed, withRecord, advanced, withOutcome, missed, isDone}
+use Rattle.crate_pass.specs.Crate.{serves, firstServed, nextBoard, placed, withRecord, advanced, withOutcome, afterFailedSend, isDone}
 use Rattle.crate_pass.specs.declared.PassKind.{PassKind}
 use Rattle.crate_pass.specs.declared.Outcome.the-variants.{Again, BoardFailed}
 use Rattle.crate_pass.specs.declared.Crate.{Crate}
@@ -65,34 +65,35 @@ unfolding nextBoard
 next-from kind w b h = first-from kind w (10 - b) b (omega arith)
 
 -- a time-up on a crate that is not done, by whether there is another send, takes one of them
-abbrev missedBy : PassKind → ℕ → Crate → Bool → Crate
-missedBy kind w k t = cond t (placed k (k .board) (k .code) (k .tries + 1)) (advanced kind w (withRecord k))
+abbrev failedSendBy : PassKind → ℕ → Crate → Bool → Crate
+failedSendBy kind w k t = cond t (placed k (k .board) (k .code) (k .tries + 1)) (advanced kind w (withRecord k))
 
-missed-by : (kind : PassKind) (w : ℕ) (k : Crate) → missed kind w k .state ≡ missedBy kind w k (ltb (k .tries) 2)
-unfolding missed
-missed-by kind w k = go (ltb (k .tries) 2)
+failed-send-by : (kind : PassKind) (w : ℕ) (k : Crate) → afterFailedSend kind w k .state ≡ failedSendBy kind w k (ltb (k .tries) 2)
+unfolding afterFailedSend
+failed-send-by kind w k = go (ltb (k .tries) 2)
   where
     go : (t : Bool)
         → cond t (withOutcome Again (placed k (k .board) (k .code) (k .tries + 1))) (withOutcome BoardFailed (advanced kind w (withRecord k))) .state
-        ≡ missedBy kind w k t
+        ≡ failedSendBy kind w k t
     go true = refl
     go false = refl
 
-by-enough : (kind : PassKind) (w : ℕ) (k : Crate) (n : ℕ) (t : Bool) → ltb (k .tries) 2 ≡ t → k .board < 10 → Enough (suc n) k → Enough n (missedBy kind w k t)
+by-enough : (kind : PassKind) (w : ℕ) (k : Crate) (n : ℕ) (t : Bool) → ltb (k .tries) 2 ≡ t → k .board < 10
+    → Enough (suc n) k → Enough n (failedSendBy kind w k t)
 unfolding placed advanced withRecord
 by-enough kind w k n true p h e = again-enough n (k .board) (k .tries) (ltb-true _ _ p) e
 by-enough kind w k n false p h e =
     let f = next-from kind w (k .board + 1) (omega arith) in
     later-enough n (k .board) (nextBoard kind w (k .board + 1)) (k .tries) (omega arith) (ltb-false _ _ p) e
 
-missed-enough : (kind : PassKind) (w : ℕ) (k : Crate) (n : ℕ) → k .board < 10 → Enough (suc n) k → Enough n (missed kind w k .state)
-missed-enough kind w k n h e = subst (Enough n) (sym (missed-by kind w k)) (by-enough kind w k n (ltb (k .tries) 2) refl h e)
+failed-send-enough : (kind : PassKind) (w : ℕ) (k : Crate) (n : ℕ) → k .board < 10 → Enough (suc n) k → Enough n (afterFailedSend kind w k .state)
+failed-send-enough kind w k n h e = subst (Enough n) (sym (failed-send-by kind w k)) (by-enough kind w k n (ltb (k .tries) 2) refl h e)
 
 -- ---- one crate of a board
 
 -- a time-up on crate i, by whether it is done
 abbrev timedUp : Board → ℕ → Bool → Board
-timedUp β i t = cond t β (withCrates β (set (β .crates) i (missed (β .kind) (activeWord (β .block) i) (crateAt β i) .state)))
+timedUp β i t = cond t β (withCrates β (set (β .crates) i (afterFailedSend (β .kind) (activeWord (β .block) i) (crateAt β i) .state)))
 
 timed-up : (β : Board) (i : ℕ) → i < 4 → boardReplied β i noReply ≡ timedUp β i (isDone (crateAt β i))
 unfolding boardReplied servedAnswer
@@ -118,7 +119,8 @@ timed-enough : (β : Board) (i n : ℕ) (t : Bool) → isDone (crateAt β i) ≡
 unfolding withCrates
 timed-enough β i n true p h e = done-enough n (crateAt β i .board) (crateAt β i .tries) (leb-true _ _ p)
 timed-enough β i n false p h e =
-    subst (Enough n) (sym (getD-set-same (β .crates) i _ noCrate h)) (missed-enough (β .kind) (activeWord (β .block) i) (crateAt β i) n (leb-false _ _ p) e)
+    subst (Enough n) (sym (getD-set-same (β .crates) i _ noCrate h))
+    (failed-send-enough (β .kind) (activeWord (β .block) i) (crateAt β i) n (leb-false _ _ p) e)
 
 run-apart : (n i : ℕ) (β : Board) → i < 4 → Apart i β (timeUps n i β)
 unfolding timeUps

@@ -4,9 +4,8 @@ use mathlib.Core.Bool.{Bool, cond, not, _&&_}
 use mathlib.Core.List.{List, [], _∷_, _++_}
 use lib.Dec.{ltb, eqb}
 use lib.ListN.{length, drop, replicate}
-use Rattle.refusals.specs.Tables.{Answer, given, refused}
+use Rattle.refusals.specs.Tables.{answerNumber}
 use Rattle.words.specs.Words.{wordsIn}
-use Rattle.commands.specs.declared.Command.{Command}
 use Rattle.command_reader.specs.Reading.{commandAnswer, usedOf}
 use Rattle.steps.specs.Steps.{noReply}
 use Rattle.board.specs.State.{freshBoard}
@@ -25,18 +24,13 @@ timeUps (suc n) c β = timeUps n c (boardReplied β c noReply)
 unfoldable pub ranOut : Board → Board
 ranOut β = timeUps 30 3 (timeUps 30 2 (timeUps 30 1 (timeUps 30 0 β)))
 
--- "0 for accepted"
-abbrev pub numberGiven : Answer Command → ℕ
-numberGiven (given c) = 0
-numberGiven (refused n p) = n
-
 -- "It stops after a 1 to 8"
 abbrev pub stops : ℕ → Bool
 stops n = not (eqb n 0) && ltb n 9
 
 -- the number that the first command in bytes gets
 abbrev pub numberFor : Board → List ℕ → ℕ
-numberFor β bytes = numberGiven (boardAnswer β (wordsIn bytes))
+numberFor β bytes = answerNumber (boardAnswer β (wordsIn bytes))
 
 -- the bytes after it: "Words after a command belong to the next"
 abbrev pub bytesAfter : List ℕ → List ℕ
@@ -55,12 +49,12 @@ unfoldable pub answersOn : List ℕ → List ℕ
 answersOn bytes = answersTo (length bytes) (freshBoard 0 0) bytes
 
 -- a listing of answers whose first has an ordinal
-unfoldable pub padded : ℕ → List ℕ → Listing
-padded first l = record { first = first; count = length l; answers = l ++ replicate (6554 - length l) 0 }
+unfoldable pub listingFrom : ℕ → List ℕ → Listing
+listingFrom first l = record { first = first; count = length l; answers = l ++ replicate (6554 - length l) 0 }
 
 -- "Longer input gives the one line `0 6`"; else the ordinals begin with 1
 unfoldable pub listed : List ℕ → Listing
-listed bytes = cond (ltb 65536 (length bytes)) (padded 0 (6 ∷ [])) (padded 1 (answersOn bytes))
+listed bytes = cond (ltb 65536 (length bytes)) (listingFrom 0 (6 ∷ [])) (listingFrom 1 (answersOn bytes))
 
 -- as much of the input as is read: one byte more than "at most 65,536". No more of it matters (proofs/Input.antt, `front-listed`)
 unfoldable pub inputBytes : ℕ

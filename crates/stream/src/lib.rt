@@ -2,9 +2,10 @@
 ghost use mathlib.Core.Path.{_≡_};
 ghost use Prim.Native.Nat.{_≤_};
 ghost use lib.ListN.{length, replicate};
+ghost use Rattle.refusals.specs.Tables.{answerNumber};
 ghost use Rattle.words.specs.Words.{wordsIn};
 ghost use Rattle.acceptance.specs.Acceptance.{answerMeaning};
-ghost use Rattle.stream.specs.Stream.{timeUps, ranOut, numberGiven, stops, padded, answersOn, listed, inputBytes};
+ghost use Rattle.stream.specs.Stream.{timeUps, ranOut, stops, listingFrom, answersOn, listed, inputBytes};
 use acceptance::CommandAnswer;
 use board::Board;
 use board::power_up;
@@ -46,7 +47,7 @@ pub fn run_out(board: Board) -> Board
 
 // The number of an answer, 0 for accepted.
 fn number_given(answer: CommandAnswer) -> u8
-    ensures { λ r. ⌜ r ≡ numberGiven (answerMeaning answer) ⌝ }
+    ensures { λ r. ⌜ r ≡ answerNumber (answerMeaning answer) ⌝ }
 {
     match answer {
         CommandAnswer::Obeyed(_) => 0,
@@ -67,7 +68,7 @@ fn is_last(number: u8) -> bool
 // The answers to the commands in bytes, whose words are given.
 fn answers_on(bytes: &[u8], words: &[u16]) -> Listing
     requires { ⌜ (now words ≡ wordsIn (now bytes)) × (length (now bytes) ≤ 65536) ⌝ }
-    ensures { λ r. ⌜ r ≡ padded 1 (answersOn (now (bytes .entry))) ⌝ }
+    ensures { λ r. ⌜ r ≡ listingFrom 1 (answersOn (now (bytes .entry))) ⌝ }
 {
     let up = power_up(0, 0);
     let mut board = up.board;

@@ -1,7 +1,7 @@
 -- `command_series::command_refusal` meets its contract. Assumes nothing.
 use mathlib.Core.Path.{sym, ap, _∙_}
+use Rattle.refusals.specs.Tables.{answerNumber}
 use Rattle.acceptance.specs.Acceptance.{answerMeaning}
-use Rattle.command_series.specs.Series.{answerNumber}
 use borrow.Author.Needs.{needs}
 use Rattle.command_series.proofs.command_refusal.Statement.{statement}
 use Rattle.command_series.proofs.command_refusal.Tie as tie

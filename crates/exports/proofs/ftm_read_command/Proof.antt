@@ -1,7 +1,7 @@
 -- `exports::ftm_read_command` meets its contract. Assumes nothing.
 use mathlib.Core.Path.{sym, ap, _∙_}
+use Rattle.refusals.specs.Tables.{answerNumber}
 use Rattle.command_reader.specs.Reading.{readMeaning}
-use Rattle.command_series.specs.Series.{answerNumber}
 use Rattle.exports.specs.Exports.{commandGiven}
 use borrow.Author.Needs.{needs}
 use Rattle.exports.proofs.ftm_read_command.Statement.{statement}

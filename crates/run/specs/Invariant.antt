@@ -6,7 +6,7 @@ use Rattle.run.specs.Run.{isRunning}
 use Rattle.run.specs.declared.Running.the-variants.{Stopped, Counted}
 use Rattle.run.specs.declared.Run.{Run}
 
-pub record SoundRun (r : Run) : Type 0 where
+pub record RunInvariant (r : Run) : Type 0 where
   -- "the 48-bit timestamp", "the 48-bit on-time"
   pub timestamp : r .timestamp < 2 ^ 48
   pub on-time : r .«on_time» < 2 ^ 48

@@ -1,4 +1,4 @@
--- A crate stands for a pass (`view`), and a step of the crate is a step of that pass (`walks`).
+-- A crate stands for a pass (`view`), and a step of the crate is a step of that pass (`follows`).
 -- Assumes nothing.
 use Prim.Native.Nat.{ℕ, zero, suc, _+_, _-_, _<_, _≤_}
 use mathlib.Core.Path.{_≡_, refl, sym, ap, ap₂, _∙_}
@@ -11,7 +11,8 @@ use borrow.Author.Tests.{ltb-true, ltb-false, lt-ltb, le-ltb, le-leb, lt-leb}
 use Rattle.refusals.specs.Tables.{Answer, given}
 use Rattle.steps.specs.declared.Judged.{Judged}
 use Rattle.crate_pass.specs.Crate.{nextBoard, firstCode, asEntries, entriesIn, isDone, begunCrate}
-use Rattle.crate_pass.specs.Crate.{placed, advanced, stepped, noted, withRecord, Moved, withOutcome, passed, missed, moved, crateAnswer, crateAfter}
+use Rattle.crate_pass.specs.Crate.{placed, advanced, stepped, withEntry, withRecord, Moved, withOutcome}
+use Rattle.crate_pass.specs.Crate.{afterGoodReply, afterFailedSend, moved, crateAnswer, crateAfter}
 use Rattle.crate_pass.specs.declared.PassKind.{PassKind}
 use Rattle.crate_pass.specs.declared.PassKind.the-variants.{Reprogramming, Ping}
 use Rattle.crate_pass.specs.declared.Outcome.{Outcome}
@@ -177,40 +178,40 @@ module _ (frame : Step → List ℕ) (kind : PassKind) (w : ℕ) where
   gives-outcome outcome k = rw (view-none kind w k, view-first kind w k)
 
   -- a note in the list leaves the place alone
-  abbrev passedPass : Crate → Judged → Pass
-  passedPass k h =
+  abbrev goodPass : Crate → Judged → Pass
+  goodPass k h =
       pass (later kind w (k .board) (k .code)) 0 (failedSteps (k .failed) 10) (foundBy (step (k .board) (k .code)) (k .tries) h (boardsOf kind (entriesIn k)))
 
-  view-noted : (k : Crate) (h : Judged) → k .board < 10 → Fit kind k → view kind w (stepped kind w (noted k h)) ≡ passedPass k h
-  unfolding noted
+  view-noted : (k : Crate) (h : Judged) → k .board < 10 → Fit kind k → view kind w (stepped kind w (withEntry k h)) ≡ goodPass k h
+  unfolding withEntry
   view-noted k h b fit =
-      view-stepped (fit .code) w (noted k h) refl b
+      view-stepped (fit .code) w (withEntry k h) refl b
       ∙ ap (λ (boards : List Found). pass (later kind w (k .board) (k .code)) 0 (failedSteps (k .failed) 10) boards)
       (boards-noted (fit .code) k h refl (fit .low))
 
   -- a good reply
-  walks-passed : (k : Crate) (h : Judged) → k .board < 10 → Fit kind k → gives (passed kind w k h) ≡ says frame Good (passedPass k h)
-  unfolding passed
-  walks-passed k h b fit = gives-outcome Good (stepped kind w (noted k h)) ∙ ap (says frame Good) (view-noted k h b fit)
+  follows-good : (k : Crate) (h : Judged) → k .board < 10 → Fit kind k → gives (afterGoodReply kind w k h) ≡ says frame Good (goodPass k h)
+  unfolding afterGoodReply
+  follows-good k h b fit = gives-outcome Good (stepped kind w (withEntry k h)) ∙ ap (says frame Good) (view-noted k h b fit)
 
   -- a first or a second one that is not good, and a third
   abbrev againPass : Crate → Pass
   againPass k = pass (view kind w k .todo) (k .tries + 1) (failedSteps (k .failed) 10) (boardsOf kind (entriesIn k))
 
-  walks-again : (k : Crate) → k .tries < 2 → gives (missed kind w k) ≡ says frame Again (againPass k)
-  unfolding missed
-  walks-again k t = rw (lt-ltb _ _ t) (gives-outcome Again (placed k (k .board) (k .code) (k .tries + 1)) ∙ ap (says frame Again) (view-again kind w k))
+  follows-again : (k : Crate) → k .tries < 2 → gives (afterFailedSend kind w k) ≡ says frame Again (againPass k)
+  unfolding afterFailedSend
+  follows-again k t = rw (lt-ltb _ _ t) (gives-outcome Again (placed k (k .board) (k .code) (k .tries + 1)) ∙ ap (says frame Again) (view-again kind w k))
 
-  walks-failed : (k : Crate) → k .board < 10 → 2 ≤ k .tries → Fit kind k → gives (missed kind w k) ≡ says frame BoardFailed (failedPass kind w k)
-  unfolding missed
-  walks-failed k b t fit =
+  follows-failed : (k : Crate) → k .board < 10 → 2 ≤ k .tries → Fit kind k → gives (afterFailedSend kind w k) ≡ says frame BoardFailed (failedPass kind w k)
+  unfolding afterFailedSend
+  follows-failed k b t fit =
       rw (le-ltb _ _ t)
       (gives-outcome BoardFailed (advanced kind w (withRecord k)) ∙ ap (says frame BoardFailed) (view-failed kind w k b fit))
 
-  moved-good : (k : Crate) (h : Judged) → h .good ≡ true → moved kind w k h ≡ passed kind w k h
+  moved-good : (k : Crate) (h : Judged) → h .good ≡ true → moved kind w k h ≡ afterGoodReply kind w k h
   moved-good k h g = rw g
 
-  moved-bad : (k : Crate) (h : Judged) → h .good ≡ false → moved kind w k h ≡ missed kind w k
+  moved-bad : (k : Crate) (h : Judged) → h .good ≡ false → moved kind w k h ≡ afterFailedSend kind w k
   moved-bad k h g = rw g
 
   -- the outstanding step, and an event judged against it
@@ -228,23 +229,23 @@ module _ (frame : Step → List ℕ) (kind : PassKind) (w : ℕ) where
   unfolding view
   view-here k b = todo-here kind w (k .board) (k .code) b
 
-  walks-moved : (k : Crate) (e : Event) → k .board < 10 → Fit kind k → gives (moved kind w k (judgedBy k e)) ≡ reacts k e
+  follows-moved : (k : Crate) (e : Event) → k .board < 10 → Fit kind k → gives (moved kind w k (judgedBy k e)) ≡ reacts k e
   unfolding view
-  walks-moved k e b fit = go (judgedBy k e .good) (ltb (k .tries) 2) refl refl
+  follows-moved k e b fit = go (judgedBy k e .good) (ltb (k .tries) 2) refl refl
     where
       go : (t u : Bool) → judgedBy k e .good ≡ t → ltb (k .tries) 2 ≡ u → gives (moved kind w k (judgedBy k e)) ≡ reacts k e
       go true u g x =
           ap gives (moved-good k (judgedBy k e) g)
-          ∙ walks-passed k (judgedBy k e) b fit
+          ∙ follows-good k (judgedBy k e) b fit
           ∙ sym (react-good frame e (view kind w k) (outstanding k) (later kind w (k .board) (k .code)) g)
       go false true g x =
           ap gives (moved-bad k (judgedBy k e) g)
-          ∙ walks-again k (ltb-true _ _ x)
+          ∙ follows-again k (ltb-true _ _ x)
           ∙ ap (λ (todo : List Step). says frame Again (pass todo (k .tries + 1) (failedSteps (k .failed) 10) (boardsOf kind (entriesIn k)))) (view-here k b)
           ∙ sym (react-again frame e (view kind w k) (outstanding k) (later kind w (k .board) (k .code)) g (ltb-true _ _ x))
       go false false g x =
           ap gives (moved-bad k (judgedBy k e) g)
-          ∙ walks-failed k b (ltb-false _ _ x) fit
+          ∙ follows-failed k b (ltb-false _ _ x) fit
           ∙ sym (react-failed frame e (view kind w k) (outstanding k) (later kind w (k .board) (k .code)) g (ltb-false _ _ x))
 
   -- what a crate gives for a judged event, done or not, and the pass that it then stands for
@@ -263,13 +264,13 @@ module _ (frame : Step → List ℕ) (kind : PassKind) (w : ℕ) where
   unfolding view
   react-view k e = refl
 
-  pub walks : (k : Crate) (e : Event) → Fit kind k → servesIt k (judgedBy k e) ≡ react frame e (view kind w k)
-  walks k e fit = go (place (k .board))
+  pub follows : (k : Crate) (e : Event) → Fit kind k → servesIt k (judgedBy k e) ≡ react frame e (view kind w k)
+  follows k e fit = go (place (k .board))
     where
       go : Place (k .board) → servesIt k (judgedBy k e) ≡ react frame e (view kind w k)
       go (at b) =
           serves-here k (judgedBy k e) b
-          ∙ walks-moved k e b fit
+          ∙ follows-moved k e b fit
           ∙ sym (react-view k e ∙ ap (reactTo frame e (view kind w k)) (todo-here kind w (k .board) (k .code) b))
       go (past b) =
           serves-done k (judgedBy k e) b

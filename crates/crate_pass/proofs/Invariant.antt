@@ -15,8 +15,8 @@ use Rattle.crate_pass.specs.declared.PassKind.{PassKind}
 use Rattle.crate_pass.specs.declared.PassKind.the-variants.{Reprogramming, Ping}
 use Rattle.crate_pass.specs.declared.Crate.{Crate}
 use Rattle.crate_pass.specs.Crate.{serves, firstServed, nextBoard, firstCode, crateAtPowerUp, kept, begunCrate}
-use Rattle.crate_pass.specs.Crate.{placed, advanced, callsAt, notedIn, noted, withRecord, crateAfter}
-use Rattle.crate_pass.specs.Sound.{IsCode, CallsKept, DnaKept, FailedIn, SoundCrate}
+use Rattle.crate_pass.specs.Crate.{placed, advanced, callsAt, withEntryIn, withEntry, withRecord, crateAfter}
+use Rattle.crate_pass.specs.Invariant.{IsCode, CallsKept, DnaKept, FailedIn, CrateInvariant}
 use Rattle.crate_pass.proofs.After.{after-any}
 
 -- ---- of lists of numbers, a number for each board
@@ -75,7 +75,7 @@ three-calls tries = go (ltb tries 2) refl
 
 -- ---- power-up, and the begin of a pass
 
-pub sound-power-up : SoundCrate Reprogramming crateAtPowerUp
+pub sound-power-up : CrateInvariant Reprogramming crateAtPowerUp
 sound-power-up =
     record {
       length-dna = refl;
@@ -90,7 +90,7 @@ sound-power-up =
       failed = λ b. inl (zeros 10 b);
     }
 
-pub sound-begun : (last kind : PassKind) (w : ℕ) (k : Crate) → SoundCrate last k → SoundCrate kind (begunCrate kind w k)
+pub sound-begun : (last kind : PassKind) (w : ℕ) (k : Crate) → CrateInvariant last k → CrateInvariant kind (begunCrate kind w k)
 unfolding begunCrate
 sound-begun last kind w k s =
     record {
@@ -109,7 +109,8 @@ sound-begun last kind w k s =
 -- ---- replies and time-ups
 
 module _ (kind : PassKind) (w : ℕ) where
-  sound-placed : (k : Crate) (b code tries : ℕ) → b ≤ 10 → (b < 10 → IsCode kind code) → tries ≤ 2 → SoundCrate kind k → SoundCrate kind (placed k b code tries)
+  sound-placed : (k : Crate) (b code tries : ℕ) → b ≤ 10 → (b < 10 → IsCode kind code) → tries ≤ 2
+      → CrateInvariant kind k → CrateInvariant kind (placed k b code tries)
   unfolding placed
   sound-placed k b code tries l i t s =
       record {
@@ -125,13 +126,13 @@ module _ (kind : PassKind) (w : ℕ) where
         failed = s .failed;
       }
 
-  sound-advanced : (k : Crate) → SoundCrate kind k → SoundCrate kind (advanced kind w k)
+  sound-advanced : (k : Crate) → CrateInvariant kind k → CrateInvariant kind (advanced kind w k)
   unfolding advanced
   sound-advanced k s =
       let b = nextBoard kind w (k .board + 1) in
       sound-placed k b (firstCode kind) 0 (next-most kind w (k .board + 1)) (λ h. first-is kind) (omega arith) s
 
-  sound-marked : (k : Crate) → k .board < 10 → SoundCrate kind k → SoundCrate kind (withRecord k)
+  sound-marked : (k : Crate) → k .board < 10 → CrateInvariant kind k → CrateInvariant kind (withRecord k)
   unfolding withRecord
   sound-marked k h s =
       record {
@@ -148,16 +149,16 @@ module _ (kind : PassKind) (w : ℕ) where
       }
 
   module _ (k : Crate) (h : Judged) where
-    length-noted : (l : List ℕ) (n : ℕ) → length l ≡ 10 → length (notedIn k l n) ≡ 10
-    unfolding notedIn
+    length-noted : (l : List ℕ) (n : ℕ) → length l ≡ 10 → length (withEntryIn k l n) ≡ 10
+    unfolding withEntryIn
     length-noted l n e = go (eqb (k .code) 4)
       where
         go : (t : Bool) → length (cond t (set l (k .board) n) l) ≡ 10
         go true = length-set l (k .board) n ∙ e
         go false = e
 
-    each-noted : (P : ℕ → Type 0) (l : List ℕ) (n : ℕ) → (k .code ≡ 4 → P n) → ((b : ℕ) → P (getD l b 0)) → (b : ℕ) → P (getD (notedIn k l n) b 0)
-    unfolding notedIn
+    each-noted : (P : ℕ → Type 0) (l : List ℕ) (n : ℕ) → (k .code ≡ 4 → P n) → ((b : ℕ) → P (getD l b 0)) → (b : ℕ) → P (getD (withEntryIn k l n) b 0)
+    unfolding withEntryIn
     each-noted P l n p f b = go (eqb (k .code) 4) refl
       where
         go : (t : Bool) → eqb (k .code) 4 ≡ t → P (getD (cond t (set l (k .board) n) l) b 0)
@@ -166,8 +167,8 @@ module _ (kind : PassKind) (w : ℕ) where
 
     -- a good reply to a ping carries a DNA "below 2^57"
     module _ (below : k .code ≡ 4 → h .good ≡ true → h .dna < idLimit) where
-      sound-noted : h .good ≡ true → SoundCrate kind k → SoundCrate kind (noted k h)
-      unfolding noted
+      sound-noted : h .good ≡ true → CrateInvariant kind k → CrateInvariant kind (withEntry k h)
+      unfolding withEntry
       sound-noted g s =
           record {
             length-dna = length-noted (k .dna) (h .dna) (s .length-dna);
@@ -182,15 +183,15 @@ module _ (kind : PassKind) (w : ℕ) where
             failed = s .failed;
           }
 
-      pub sound-after : SoundCrate kind k → SoundCrate kind (crateAfter kind w k h)
+      pub sound-after : CrateInvariant kind k → CrateInvariant kind (crateAfter kind w k h)
       sound-after s =
-          after-any kind w k h (SoundCrate kind)
+          after-any kind w k h (CrateInvariant kind)
           (record {
             done = s;
             next-step = λ d g l.
-                sound-placed (noted k h) (k .board) (k .code + 1) 0 (s .board) (λ u. next-is kind (k .code) (s .code d) l) (omega arith)
+                sound-placed (withEntry k h) (k .board) (k .code + 1) 0 (s .board) (λ u. next-is kind (k .code) (s .code d) l) (omega arith)
                 (sound-noted g s);
-            next-board = λ d g l. sound-advanced (noted k h) (sound-noted g s);
+            next-board = λ d g l. sound-advanced (withEntry k h) (sound-noted g s);
             again = λ d l. sound-placed k (k .board) (k .code) (k .tries + 1) (s .board) (s .code) (omega arith) s;
             failed = λ d l. sound-advanced (withRecord k) (sound-marked k d s);
           })

@@ -26,7 +26,7 @@ abbrev pub FailedIn : PassKind → ℕ → Type 0
 FailedIn kind code = (code ≡ 0) ⊎ IsCode kind code
 
 -- of a crate whose last pass is of the kind; where there was none, either kind will do
-pub record SoundCrate (kind : PassKind) (k : Crate) : Type 0 where
+pub record CrateInvariant (kind : PassKind) (k : Crate) : Type 0 where
   -- "Board b (0 to 9)": each list has a number for each board
   pub length-dna : length (k .dna) ≡ 10
   pub length-calls : length (k .calls) ≡ 10

@@ -17,7 +17,7 @@ use Rattle.run.specs.Run.{triggerNumber, triggerAnswer, isLast, counted,
 use Rattle.run.specs.declared.Running.{Running}
 use Rattle.run.specs.declared.Running.the-variants.{Stopped}
 use Rattle.run.specs.declared.Run.{Run}
-use Rattle.run.specs.Sound.{SoundRun}
+use Rattle.run.specs.Invariant.{RunInvariant}
 use Rattle.run.proofs.Laws.{accepted-running, room}
 
 false≢true : {A : Type 0} → false ≡ true → A
@@ -26,7 +26,7 @@ false≢true e = absurd (let z : _≡_ {A = ℕ} 0 1 = cc in omega arith)
 -- ---- the three at zero
 
 -- X, where it is counted to, is not 0
-sound-zeroed : (running : Running) (fresh : Bool) → ((x : ℕ) → running ≡ Running.Counted x → 0 < x) → SoundRun (zeroed running fresh)
+sound-zeroed : (running : Running) (fresh : Bool) → ((x : ℕ) → running ≡ Running.Counted x → 0 < x) → RunInvariant (zeroed running fresh)
 sound-zeroed running fresh f =
     record {
       timestamp = omega arith;
@@ -37,23 +37,23 @@ sound-zeroed running fresh f =
       fewer = λ x e. let l = f x e in omega arith;
     }
 
-sound-still : (fresh : Bool) → SoundRun (zeroed Stopped fresh)
+sound-still : (fresh : Bool) → RunInvariant (zeroed Stopped fresh)
 sound-still fresh = sound-zeroed Stopped fresh (λ x e. false≢true (ap takesEvents e))
 
-pub sound-power-up : SoundRun atPowerUp
+pub sound-power-up : RunInvariant atPowerUp
 sound-power-up = sound-still false
 
-pub sound-stopped : (r : Run) → SoundRun (stopped r)
+pub sound-stopped : (r : Run) → RunInvariant (stopped r)
 sound-stopped r = sound-still (r .fresh)
 
 -- "X is 0" is refused
-pub sound-started : (l : RunLength) → noEvents (Start l) ≡ false → SoundRun (started l)
+pub sound-started : (l : RunLength) → noEvents (Start l) ≡ false → RunInvariant (started l)
 sound-started Endless e = sound-zeroed Running.Endless false (λ x q. absurd (let z : _≡_ {A = ℕ} 0 1 = cc in omega arith))
 sound-started (Counted x) e = sound-zeroed (Running.Counted x) false (λ y q. let n = eqb-false x 0 e in let s : x ≡ y = cc in omega arith)
 
 -- ---- writes and clock steps
 
-pub sound-refreshed : (r : Run) → SoundRun r → SoundRun (refreshed r)
+pub sound-refreshed : (r : Run) → RunInvariant r → RunInvariant (refreshed r)
 sound-refreshed r s =
     record { timestamp = s .timestamp; on-time = s .on-time; counter = s .counter; zeroed = s .zeroed; together = s .together; fewer = s .fewer }
 
@@ -62,7 +62,7 @@ still-time : (r : Run) (ticks : ℕ) → r .running ≡ Stopped → clockedRun r
 unfolding clockedRun
 still-time r ticks e = rw (ap takesEvents e)
 
-pub sound-clocked : (r : Run) (ticks : ℕ) → SoundRun r → SoundRun (clockedRun r ticks)
+pub sound-clocked : (r : Run) (ticks : ℕ) → RunInvariant r → RunInvariant (clockedRun r ticks)
 unfolding clockedRun
 sound-clocked r ticks s =
     record {
@@ -80,9 +80,9 @@ sound-clocked r ticks s =
 
 -- ---- triggers
 
-module _ (r : Run) (s : SoundRun r) where
+module _ (r : Run) (s : RunInvariant r) where
   -- one that is not the last
-  sound-counted : isRunning r ≡ true → (r .«trigger_counter» ≡ 4294967295 → ⊥) → isLast (r .running) (triggerNumber r) ≡ false → SoundRun (counted r)
+  sound-counted : isRunning r ≡ true → (r .«trigger_counter» ≡ 4294967295 → ⊥) → isLast (r .running) (triggerNumber r) ≡ false → RunInvariant (counted r)
   sound-counted running more other =
       record {
         timestamp = s .timestamp;
@@ -96,17 +96,17 @@ module _ (r : Run) (s : SoundRun r) where
             omega arith;
       }
 
-  sound-trigger : isRunning r ≡ true → (r .«trigger_counter» ≡ 4294967295 → ⊥) → SoundRun (afterTrigger r)
+  sound-trigger : isRunning r ≡ true → (r .«trigger_counter» ≡ 4294967295 → ⊥) → RunInvariant (afterTrigger r)
   unfolding afterTrigger
   sound-trigger running more = go (isLast (r .running) (triggerNumber r)) refl
     where
-      go : (t : Bool) → isLast (r .running) (triggerNumber r) ≡ t → SoundRun (cond t (stopped r) (counted r))
+      go : (t : Bool) → isLast (r .running) (triggerNumber r) ≡ t → RunInvariant (cond t (stopped r) (counted r))
       go true e = sound-stopped r
       go false e = sound-counted running more e
 
-  pub sound-triggered : (f : Fields) (out : List ℕ) → SoundRun (afterAnswer r (triggerAnswer r f out))
+  pub sound-triggered : (f : Fields) (out : List ℕ) → RunInvariant (afterAnswer r (triggerAnswer r f out))
   sound-triggered f out = go (triggerAnswer r f out) refl
     where
-      go : (a : Answer ℕ) → triggerAnswer r f out ≡ a → SoundRun (afterAnswer r a)
+      go : (a : Answer ℕ) → triggerAnswer r f out ≡ a → RunInvariant (afterAnswer r a)
       go (given n) e = sound-trigger (not-false (isRunning r) (accepted-running r f out n e)) (room r f out n e)
       go (refused n p) e = s
