@@ -33,7 +33,7 @@ AllHold (e ∷ es) = Holds e × AllHold es
 abbrev pub writeWith : ℕ → ℕ → List ℕ
 writeWith place word = fiveWords 0x02 1 ++ set (replicate 436 0) place word
 
--- fields with n and the pedestal flag alone
+-- fields with n alone; below, with the pedestal flag alone
 abbrev pub fieldsWith : ℕ → Fields
 fieldsWith n =
     record {

@@ -74,7 +74,7 @@ printedAnswer β otherForm = question
 
 -- ---- the board after it
 
--- "prints `0`, or `20`, and then the board that stood there stays"
+-- "`0`; or `20`, and the board that stood there stays"
 abbrev pub afterPowerUp : Board → ℕ → ℕ → Answer Unit → Board
 afterPowerUp β id firmware (given t) = freshBoard id firmware
 afterPowerUp β id firmware (refused n p) = β

@@ -71,18 +71,18 @@ abbrev pub replyFrom : List ℕ → Order
 replyFrom [] = otherForm
 replyFrom (c ∷ bytes) = reply c bytes
 
--- "board ID (16 digits), firmware ID (4)"
+-- `P`: "board ID (16), firmware ID (4)", in digits
 abbrev pub powerUpOrder : List ℕ → Order
 powerUpOrder b = taking (eqb (length b) 10) (powerUp (number 65536 (take 4 (wordsIn b))) (getD (wordsIn b) 4 0))
 
--- "8 digits: clock step"
+-- `K`: "ticks (8)"
 abbrev pub clockOrder : List ℕ → Order
 clockOrder b = taking (eqb (length b) 4) (clockStep (number 65536 (wordsIn b)))
 
 abbrev pub triggerOrder : List ℕ → Order
 triggerOrder b = taking (areFields b) (trigger (fieldsFrom b))
 
--- the first letter of a table that is this one
+-- a row of the table: a letter, and the order that its bytes make
 pub record Row : Type 0 where
   pub letter : Char
   pub order : List ℕ → Order
@@ -90,6 +90,7 @@ pub record Row : Type 0 where
 abbrev pub row : Char → (List ℕ → Order) → Row
 row c o = record { letter = c; order = o }
 
+-- the order of a letter and bytes, by the row that has the letter; another letter is another form
 abbrev pub found : List Row → ℕ → List ℕ → Order
 found [] letter b = otherForm
 found (r ∷ rs) letter b = cond (eqb letter (code (r .letter))) (r .order b) (found rs letter b)

@@ -34,7 +34,7 @@ abbrev pub upFrom : ℕ → ℕ → List ℕ
 upFrom n zero = []
 upFrom n (suc m) = n ∷ upFrom (suc n) m
 
--- how a run goes on that was started for some length: an endless one does; "the Xth trigger ends the run", and no other does
+-- how a run goes on that was started for some length: an endless one does; "the Xth trigger, ends the run", and no other does
 abbrev pub GoesOn : RunLength → ℕ → Board → Type 0
 GoesOn Endless m β = isRunning (β .run) ≡ true
 GoesOn (Counted x) m β = (m ≤ x) × (isRunning (β .run) ≡ ltb m x)

@@ -17,13 +17,13 @@ use Rattle.board.specs.SlowControl.{sentAnswer}
 use Rattle.board.specs.SentOut.{headerOf, failureRules, failedFrame, failureBodyOf, SendsList, SendsFailure}
 use Rattle.board.specs.declared.Board.{Board}
 
--- lent words that a call was accepted with begin with the board's header, and then the body
-abbrev pub BeginsWith : Board → List ℕ → List ℕ → Type 0
-BeginsWith β body words = words ≡ headerWords (headerOf β) ++ body
+-- the words that a call wrote are the board's header, and then the body
+abbrev pub IsBlock : Board → List ℕ → List ℕ → Type 0
+IsBlock β body words = words ≡ headerWords (headerOf β) ++ body
 
 -- `ftu_list` gives this body wherever it is accepted
 abbrev pub GivesList : Board → List ℕ → Type 0
-GivesList β body = (out after : List ℕ) (n : ℕ) → SendsList β out (Length n) after → BeginsWith β body (take n after)
+GivesList β body = (out after : List ℕ) (n : ℕ) → SendsList β out (Length n) after → IsBlock β body (take n after)
 
 -- "The list at power-up is 249 zeros"
 abbrev pub listAtPowerUp : List ℕ
@@ -31,7 +31,7 @@ listAtPowerUp = replicate 249 0
 
 -- `failure_message` gives this body for an ordinal wherever it is accepted
 abbrev pub GivesMessage : Board → ℕ → List ℕ → Type 0
-GivesMessage β n body = (out after : List ℕ) (m : ℕ) → SendsFailure β n out (Length m) after → BeginsWith β body (take m after)
+GivesMessage β n body = (out after : List ℕ) (m : ℕ) → SendsFailure β n out (Length m) after → IsBlock β body (take m after)
 
 -- what it answers, with `out` lent
 abbrev pub messageAnswer : Board → ℕ → List ℕ → Answer ℕ

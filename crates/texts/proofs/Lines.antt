@@ -1,4 +1,4 @@
--- The lines that "A program to replay a night" gives, and a few more.
+-- Replay script: lines as they are printed.
 -- Assumes nothing.
 use mathlib.Core.Path.{_≡_, refl}
 use mathlib.Core.Bool.{true, false}
