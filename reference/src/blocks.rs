@@ -1,6 +1,6 @@
 //! Data blocks, written and read (01, Blocks sent out).
 
-use crate::{configuration, frames::Frame, Refusal, BOARDS, CRATES, ID_LIMIT};
+use crate::{check_bounds, configuration, frames::Frame, Refusal, BOARDS, CRATES, ID_LIMIT};
 
 /// Words of the header.
 pub const HEADER: usize = 11;
@@ -45,6 +45,16 @@ impl Kind {
     pub fn words(self) -> usize {
         HEADER + self.body_words()
     }
+
+    /// The upper bound of the body's word at `place`; the words of lists and
+    /// failure messages are not checked.
+    pub fn bound(self, place: usize) -> u16 {
+        match self {
+            Kind::Static => configuration::bound(place),
+            Kind::Dynamic if place >= ON_TIME => measurement_bound(place - ON_TIME),
+            _ => 0xFFFF,
+        }
+    }
 }
 
 /// What the header tells.
@@ -56,26 +66,21 @@ pub struct Header {
     pub timestamp: u64,
 }
 
+/// The upper bound of the measurement at `place`: of a board's twelve words,
+/// the high words of the five rates are bounded.
+pub fn measurement_bound(place: usize) -> u16 {
+    match place.checked_sub(4).map(|place| place % 12) {
+        Some(0 | 2 | 4 | 6 | 8) => RATE_HIGH,
+        _ => 0xFFFF,
+    }
+}
+
 /// Checks the number of lent measurements (6) and the rates' high words (8).
 pub fn check_measurements(words: &[u16]) -> Result<(), Refusal> {
     if words.len() != MEASUREMENTS {
         return Err(Refusal::WrongLength);
     }
-    check_rates(words, 0)
-}
-
-/// Checks the high words of the rates; `offset` is the place of `measurements`
-/// in what the caller counts in.
-fn check_rates(measurements: &[u16], offset: usize) -> Result<(), Refusal> {
-    for (board, words) in measurements[4..].chunks_exact(12).enumerate() {
-        for pair in 0..5 {
-            if words[2 * pair] > RATE_HIGH {
-                let place = offset + 4 + 12 * board + 2 * pair;
-                return Err(Refusal::AboveBound { place });
-            }
-        }
-    }
-    Ok(())
+    check_bounds(words, measurement_bound)
 }
 
 /// The high, middle and low word of a 48-bit counter.
@@ -158,11 +163,7 @@ pub fn read(kind: Kind, words: &[u16]) -> Result<(Header, &[u16]), Refusal> {
         return Err(Refusal::WrongLength);
     }
     let (head, body) = words.split_at(HEADER);
-    match kind {
-        Kind::Static => configuration::check(body)?,
-        Kind::Dynamic => check_rates(&body[ON_TIME..], ON_TIME)?,
-        Kind::List | Kind::Failure => {}
-    }
+    check_bounds(body, |place| kind.bound(place))?;
     let number = |words: &[u16]| words.iter().fold(0u64, |sum, &word| sum << 16 | u64::from(word));
     let board_id = number(&head[..4]);
     if board_id >= ID_LIMIT || head[10] != 0 {

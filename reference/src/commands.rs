@@ -37,28 +37,9 @@ pub enum Command<'a> {
 /// takes; the words after these belong to the next command. Refuses with 1 to
 /// 8, which use no words.
 pub fn read(words: &[u16]) -> Result<(Command<'_>, usize), Refusal> {
-    if words.len() < HEAD {
-        return Err(Refusal::FewerThanFiveWords);
-    }
-    if words[0] != DELIMITER {
-        return Err(Refusal::WrongDelimiter);
-    }
-    let parameter = words[2];
-    let allowed = match words[1] {
-        0x01 | 0x04 => matches!(parameter, 1 | 2),
-        0x02 => parameter == 1,
-        0x08 | 0x10 => parameter == 0,
-        0x20 => matches!(parameter, 1 | 2 | 4 | 8),
-        _ => return Err(Refusal::UnknownCommand),
-    };
-    if !allowed {
-        return Err(Refusal::UnknownParameter);
-    }
-    if words[3] != 0 || words[4] != 0 {
-        return Err(Refusal::SpareWordNotZero);
-    }
+    check_head(words)?;
     let data = &words[HEAD..];
-    let command = match (words[1], parameter) {
+    let command = match (words[1], words[2]) {
         (0x01, 1) => Command::Read(ReadBlock::Static),
         (0x01, _) => Command::Read(ReadBlock::Dynamic),
         (0x02, _) => {
@@ -79,9 +60,34 @@ pub fn read(words: &[u16]) -> Result<(Command<'_>, usize), Refusal> {
         }
         (0x08, _) => Command::Stop,
         (0x10, _) => Command::Ping,
-        _ => Command::Reset(parameter.trailing_zeros() as u8),
+        (_, parameter) => Command::Reset(parameter.trailing_zeros() as u8),
     };
     Ok((command, HEAD))
+}
+
+/// Refuses the five words before the data block with 1 to 5.
+fn check_head(words: &[u16]) -> Result<(), Refusal> {
+    if words.len() < HEAD {
+        return Err(Refusal::FewerThanFiveWords);
+    }
+    if words[0] != DELIMITER {
+        return Err(Refusal::WrongDelimiter);
+    }
+    let parameter = words[2];
+    let allowed = match words[1] {
+        0x01 | 0x04 => matches!(parameter, 1 | 2),
+        0x02 => parameter == 1,
+        0x08 | 0x10 => parameter == 0,
+        0x20 => matches!(parameter, 1 | 2 | 4 | 8),
+        _ => return Err(Refusal::UnknownCommand),
+    };
+    if !allowed {
+        return Err(Refusal::UnknownParameter);
+    }
+    if words[3] != 0 || words[4] != 0 {
+        return Err(Refusal::SpareWordNotZero);
+    }
+    Ok(())
 }
 
 /// Writes a command into `out` and gives the number of its words. Refuses with

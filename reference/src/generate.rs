@@ -2,13 +2,17 @@
 //! and a number. The model runs beside the generator, so that scripts can
 //! answer the frames that are outstanding.
 
+use std::collections::BTreeMap;
+
 use crate::board::{Board, Mode};
 use crate::commands::{self, Command, Events, ReadBlock};
 use crate::configuration::{self, ACTIVE};
 use crate::crc::crc8;
 use crate::frames::{self, Frame};
-use crate::replay::{Replay, MAX_DIGITS};
+use crate::replay::{push_bytes, push_words, Replay, MAX_DIGITS};
 use crate::{blocks, BOARDS, BOARDS_PER_CRATE, CRATES, ID_LIMIT};
+
+mod far_end;
 
 /// The splitmix64 random number generator.
 pub struct Random(u64);
@@ -60,38 +64,24 @@ impl Random {
     }
 }
 
-const DIGITS: &[u8; 16] = b"0123456789ABCDEF";
-
-fn push_byte(line: &mut Vec<u8>, byte: u8) {
-    line.push(DIGITS[usize::from(byte >> 4)]);
-    line.push(DIGITS[usize::from(byte & 0x0F)]);
-}
-
 /// A line of a letter and bytes.
 pub fn bytes_line(letter: u8, bytes: &[u8]) -> Vec<u8> {
     let mut line = vec![letter];
-    for &byte in bytes {
-        push_byte(&mut line, byte);
-    }
+    push_bytes(bytes, &mut line);
     line
 }
 
 /// A line of a letter and words.
 pub fn words_line(letter: u8, words: &[u16]) -> Vec<u8> {
     let mut line = vec![letter];
-    for &word in words {
-        push_byte(&mut line, (word >> 8) as u8);
-        push_byte(&mut line, word as u8);
-    }
+    push_words(words, &mut line);
     line
 }
 
 /// A line of a letter, a crate byte and a reply's bytes.
 fn reply_line(crate_number: u8, reply: &[u8]) -> Vec<u8> {
     let mut line = bytes_line(b'R', &[crate_number]);
-    for &byte in reply {
-        push_byte(&mut line, byte);
-    }
+    push_bytes(reply, &mut line);
     line
 }
 
@@ -105,22 +95,32 @@ pub fn command_line(command: &Command) -> Vec<u8> {
 /// A power-up line.
 fn power_up_line(board_id: u64, firmware_id: u16) -> Vec<u8> {
     let mut line = bytes_line(b'P', &board_id.to_be_bytes());
-    for byte in firmware_id.to_be_bytes() {
-        push_byte(&mut line, byte);
-    }
+    push_words(&[firmware_id], &mut line);
     line
 }
+
+/// The bounded words of the static block.
+const BOUNDED: [usize; 8] = [0, 1, 2, 3, 432, 433, 434, 435];
+/// The bytes of a trigger that are flags.
+const FLAGS: [usize; 6] = [1, 2, 3, 5, 6, 7];
 
 /// A script while it is made, with the model that has obeyed it so far.
 struct Script {
     text: Vec<u8>,
     replay: Replay,
     answers: Vec<u8>,
+    /// The digits of the last block, packet or command written at each letter.
+    written: BTreeMap<u8, Vec<u8>>,
 }
 
 impl Script {
     fn new() -> Script {
-        Script { text: Vec::new(), replay: Replay::new(), answers: Vec::new() }
+        Script {
+            text: Vec::new(),
+            replay: Replay::new(),
+            answers: Vec::new(),
+            written: BTreeMap::new(),
+        }
     }
 
     fn board(&self) -> &Board {
@@ -140,9 +140,21 @@ impl Script {
         for part in line.split(|&byte| byte == b'\n') {
             self.answers.clear();
             self.replay.line(part, &mut self.answers);
+            self.keep_written(part);
         }
         self.text.extend_from_slice(line);
         self.text.push(b'\n');
+    }
+
+    /// Keeps what this line wrote, for the far end or the board to read.
+    fn keep_written(&mut self, line: &[u8]) {
+        if let (Some(letter @ (b'S' | b'D' | b'L' | b'M' | b'G' | b'W')), Some(digits)) =
+            (line.first(), self.answers.strip_prefix(b"0 "))
+        {
+            let kept = self.written.entry(*letter).or_default();
+            kept.clear();
+            kept.extend_from_slice(digits.trim_ascii_end());
+        }
     }
 
     /// Adds a line, now and then with spaces and small digits.
@@ -228,10 +240,7 @@ fn quiet_block(random: &mut Random) -> [u16; configuration::WORDS] {
 fn random_measurements(random: &mut Random) -> [u16; blocks::MEASUREMENTS] {
     let mut words = [0; blocks::MEASUREMENTS];
     for (place, word) in words.iter_mut().enumerate() {
-        *word = random.word();
-        if place >= 4 && (place - 4) % 12 < 10 && (place - 4) % 2 == 0 {
-            *word &= 0x3FFF;
-        }
+        *word = random.word() & blocks::measurement_bound(place);
     }
     words
 }
@@ -268,9 +277,11 @@ fn good_reply(random: &mut Random, sent: &Frame) -> Frame {
     reply
 }
 
-/// Makes the CRC right.
-fn mend(reply: &mut Frame) {
-    reply[27] = crc8(&reply[..27]);
+/// Makes the last byte the CRC of those before it.
+fn mend(bytes: &mut [u8]) {
+    if let Some((last, others)) = bytes.split_last_mut() {
+        *last = crc8(others);
+    }
 }
 
 /// The frame that a reply from this crate is made for: the outstanding one, or
@@ -280,8 +291,7 @@ fn frame_for(random: &mut Random, board: &Board, crate_number: u8) -> Frame {
         Ok(frame) => *frame,
         Err(_) => {
             let crate_number = usize::from(crate_number) % CRATES;
-            let code =
-                random.choose(&[frames::DACS, frames::ENABLES, frames::PRESCALING, frames::PING]);
+            let code = some_code(random);
             frames::for_board(board.block(), crate_number, random.below(BOARDS_PER_CRATE), code)
         }
     }
@@ -290,53 +300,15 @@ fn frame_for(random: &mut Random, board: &Board, crate_number: u8) -> Frame {
 /// A reply that is probably bad: one thing is wrong in an otherwise good one.
 fn odd_reply(random: &mut Random, board: &Board, crate_number: u8) -> Vec<u8> {
     let sent = frame_for(random, board, crate_number);
-    let good = good_reply(random, &sent);
-    let mut reply = good;
+    let mut reply = good_reply(random, &sent);
     match random.below(14) {
         // One byte changed, the CRC left.
         0 => reply[random.below(28)] ^= 1 << random.below(8),
         1 => reply[random.below(28)] = random.byte(),
-        // One byte changed, the CRC made right again.
-        2 | 3 => {
-            reply[random.below(27)] ^= 1 << random.below(8);
-            mend(&mut reply);
-        }
-        4 => {
-            reply[random.below(27)] = random.byte();
-            mend(&mut reply);
-        }
-        // Another length.
-        5 => {
-            let mut longer = good.to_vec();
-            if random.chance(30) {
-                longer.truncate(random.below(28));
-            } else if random.chance(50) {
-                longer.truncate(27);
-                let crc = crc8(&longer[..26]);
-                longer[26] = crc;
-            } else {
-                longer.resize(29 + random.below(4), 0);
-                if random.chance(50) {
-                    let last = longer.len() - 1;
-                    longer[last] = crc8(&longer[..last]);
-                }
-            }
-            return longer;
-        }
-        // Addresses not exchanged.
-        6 => {
-            reply.swap(1, 2);
-            mend(&mut reply);
-        }
-        // Another code.
-        7 => {
-            reply[4] = random.choose(&[0, 1, 2, 3, 4, 5, 255]);
-            mend(&mut reply);
-        }
+        5 => return other_length(random, &reply),
         // Data of another step, or of another board.
         8 => {
-            let code =
-                random.choose(&[frames::DACS, frames::ENABLES, frames::PRESCALING, frames::PING]);
+            let code = some_code(random);
             let crate_of = random.below(CRATES);
             let number = random.below(BOARDS_PER_CRATE);
             let other = frames::for_board(board.block(), crate_of, number, code);
@@ -345,43 +317,77 @@ fn odd_reply(random: &mut Random, board: &Board, crate_number: u8) -> Vec<u8> {
         }
         // A whole reply of another step of this board.
         9 => {
-            let code =
-                random.choose(&[frames::DACS, frames::ENABLES, frames::PRESCALING, frames::PING]);
+            let code = some_code(random);
             let number = usize::from(sent[1] & 15) % BOARDS_PER_CRATE;
             let crate_of = usize::from(sent[1] >> 4) % CRATES;
             let other = frames::for_board(board.block(), crate_of, number, code);
             reply = good_reply(random, &other);
         }
+        13 => return some_bytes(random),
+        kind => {
+            change(random, &mut reply, kind);
+            mend(&mut reply);
+        }
+    }
+    reply.to_vec()
+}
+
+fn some_code(random: &mut Random) -> u8 {
+    random.choose(&[frames::DACS, frames::ENABLES, frames::PRESCALING, frames::PING])
+}
+
+/// Changes something in a reply; the CRC is to be made right again.
+fn change(random: &mut Random, reply: &mut Frame, kind: usize) {
+    match kind {
+        // One byte.
+        2 | 3 => reply[random.below(27)] ^= 1 << random.below(8),
+        4 => reply[random.below(27)] = random.byte(),
+        // Addresses not exchanged.
+        6 => reply.swap(1, 2),
+        // Another code.
+        7 => reply[4] = random.choose(&[0, 1, 2, 3, 4, 5, 255]),
         // A DNA at its bound, or bytes after it.
         10 => {
             let dna = random.choose(&[ID_LIMIT - 1, ID_LIMIT, ID_LIMIT + 1, u64::MAX, 1 << 63]);
             reply[5..13].copy_from_slice(&dna.to_be_bytes());
-            mend(&mut reply);
         }
-        11 => {
-            reply[13 + random.below(13)] = 1 << random.below(8);
-            mend(&mut reply);
-        }
+        11 => reply[13 + random.below(13)] = 1 << random.below(8),
         // A board of another crate, or another board of this one.
-        12 => {
+        _ => {
             if random.chance(50) {
                 reply[2] = (reply[2] + 16 * (1 + random.below(3)) as u8) & 63;
             } else {
                 reply[2] = reply[2] & 0xF0 | random.below(BOARDS_PER_CRATE) as u8;
             }
-            mend(&mut reply);
-        }
-        // Something else altogether.
-        _ => {
-            let length = random.choose(&[0, 1, 27, 28, 28, 28, 29, 60]);
-            let mut other: Vec<u8> = (0..length).map(|_| random.byte()).collect();
-            if random.chance(30) {
-                other.fill(0);
-            }
-            return other;
         }
     }
-    reply.to_vec()
+}
+
+/// A good reply with another length.
+fn other_length(random: &mut Random, good: &Frame) -> Vec<u8> {
+    let mut reply = good.to_vec();
+    if random.chance(30) {
+        reply.truncate(random.below(28));
+    } else if random.chance(50) {
+        reply.truncate(27);
+        mend(&mut reply);
+    } else {
+        reply.resize(29 + random.below(4), 0);
+        if random.chance(50) {
+            mend(&mut reply);
+        }
+    }
+    reply
+}
+
+/// Something that is no reply at all.
+fn some_bytes(random: &mut Random) -> Vec<u8> {
+    let length = random.choose(&[0, 1, 27, 28, 28, 28, 29, 60]);
+    let mut bytes: Vec<u8> = (0..length).map(|_| random.byte()).collect();
+    if random.chance(30) {
+        bytes.fill(0);
+    }
+    bytes
 }
 
 /// An item of a pass: a crate with a reply, or with a time-up.
@@ -423,14 +429,15 @@ pub struct Generated {
 /// Script `number` of the series with this seed.
 pub fn script(seed: u64, number: usize) -> Generated {
     let mut random = Random::new(seed ^ (number as u64 + 1).wrapping_mul(0xD134_2543_DE82_EF95));
-    let group = number / 8;
-    let (family, index, make): (_, _, fn(&mut Random, usize) -> Vec<u8>) = match number % 8 {
+    let group = number / 9;
+    let (family, index, make): (_, _, fn(&mut Random, usize) -> Vec<u8>) = match number % 9 {
         0 => ("lengths", group, lengths),
         1 => ("damaged", group, damaged),
         2 => ("bounds", group, bounds),
-        3 | 4 => ("sessions", 2 * group + number % 8 - 3, sessions),
-        5 | 6 => ("passes", 2 * group + number % 8 - 5, passes),
-        _ => ("runs", group, runs),
+        3 | 4 => ("sessions", 2 * group + number % 9 - 3, sessions),
+        5 | 6 => ("passes", 2 * group + number % 9 - 5, passes),
+        7 => ("runs", group, runs),
+        _ => ("far end", group, far_end::scripts),
     };
     Generated { family, index, text: make(&mut random, index) }
 }
@@ -529,8 +536,8 @@ fn reply_lengths(random: &mut Random, script: &mut Script) {
             if length > 28 && random.chance(50) {
                 reply[28..].fill_with(|| random.byte());
             }
-            if length > 0 && random.chance(30) {
-                reply[length - 1] = crc8(&reply[..length - 1]);
+            if random.chance(30) {
+                mend(&mut reply);
             }
             script.push(&reply_line(crate_number, &reply));
             script.push(&bytes_line(b'F', &[crate_number]));
@@ -552,7 +559,7 @@ fn digit_counts(random: &mut Random, script: &mut Script, part: usize) {
             .map(|_| if zero { b'0' } else { random.choose(b"0123456789abcdefABCDEF") })
             .collect()
     };
-    for letter in *b"GPKTFNMSLDCR" {
+    for letter in *b"GPKTFNMSLDCRWXY" {
         for count in 0..=48 {
             let line = [&[letter][..], &digits(count, (count + part).is_multiple_of(2))].concat();
             script.push(&line);
@@ -563,7 +570,7 @@ fn digit_counts(random: &mut Random, script: &mut Script, part: usize) {
     }
     let longest = MAX_DIGITS;
     for letter in b'A'..=b'Z' {
-        if usize::from(letter) % 4 != part % 4 && !b"CDR".contains(&letter) {
+        if usize::from(letter) % 4 != part % 4 && !b"CDRX".contains(&letter) {
             continue;
         }
         for count in
@@ -608,7 +615,7 @@ fn damaged(random: &mut Random, index: usize) -> Vec<u8> {
     let mut script = Script::new();
     enter_some_state(random, &mut script);
     for _ in 0..120 {
-        let line = session_line(random, script.board());
+        let line = session_line(random, &script);
         if random.chance(35) {
             script.push_styled(random, &line);
             continue;
@@ -659,42 +666,17 @@ fn bounds(random: &mut Random, index: usize) -> Vec<u8> {
     let mut script = Script::new();
     let stride = 100;
     let first = index % stride;
-    for place in (first..configuration::WORDS)
-        .step_by(stride)
-        .chain([random.choose(&[0, 1, 2, 3, 432, 433, 434, 435])])
-    {
+    let places = (first..configuration::WORDS).step_by(stride);
+    for place in places.chain([random.choose(&BOUNDED)]) {
         let bound = configuration::bound(place);
         for value in [bound, bound.wrapping_add(1), 0xFFFF] {
-            let mut block = quiet_block(random);
-            block[place] = value;
-            if random.chance(20) {
-                block[random.choose(&[0, 1, 2, 3, 432, 433, 434, 435])] = random.word();
-            }
-            if script.mode() != Mode::Idle || random.chance(20) {
-                if random.chance(50) && script.in_pass() {
-                    script.run_out();
-                } else if !random.chance(10) {
-                    script.push(&power_up_line(random.number() % ID_LIMIT, random.word()));
-                }
-            }
-            let mut words = vec![0x40, 2, 1, 0, 0];
-            words.extend_from_slice(&block);
-            script.push(&words_line(b'C', &words));
-            script.push(b"S");
-            for crate_number in 0..4 {
-                script.push(&bytes_line(b'F', &[crate_number]));
-            }
+            block_with(random, &mut script, place, value);
         }
     }
     enter_some_state(random, &mut script);
     for place in (first..blocks::MEASUREMENTS).step_by(stride) {
         for value in [0x3FFF, 0x4000, 0xFFFF] {
-            let mut words = random_measurements(random);
-            words[place] = value;
-            if random.chance(15) {
-                words[random.below(blocks::MEASUREMENTS)] = random.word();
-            }
-            script.push(&words_line(b'D', &words));
+            measurements_with(random, &mut script, place, value);
         }
     }
     for _ in 0..8 {
@@ -707,25 +689,7 @@ fn bounds(random: &mut Random, index: usize) -> Vec<u8> {
         script.push(&power_up_line(id, random.word()));
         script.push(b"S");
     }
-    let running = random.chance(70);
-    if running {
-        let mut block = random_block(random);
-        block[ACTIVE..].fill(0);
-        script.command(&Command::Write(&block));
-        script.command(&Command::Start(Events::Endless));
-    }
-    for n in [0, 1, 38, 39, 40, 41, 42, 63, 64, 127, 128, 255] {
-        let setting = random.choose(&[0, 14, 15, 16, 17, 31, 32, 255, 7, 8]);
-        let mut bytes = [n, 0, 0, 0, setting, 0, 0, 0];
-        for flag in [1, 2, 3, 5, 6, 7] {
-            bytes[flag] = random.below(2) as u8;
-        }
-        script.push(&bytes_line(b'G', &bytes));
-        bytes[4] = random.below(16) as u8;
-        script.push(&bytes_line(b'G', &bytes));
-        bytes[random.choose(&[1, 2, 3, 5, 6, 7])] = random.choose(&[2, 3, 16, 128, 255]);
-        script.push(&bytes_line(b'G', &bytes));
-    }
+    trigger_bounds(random, &mut script);
     enter_some_state(random, &mut script);
     for crate_number in [0, 1, 2, 3, 4, 5, 255] {
         for letter in *b"FNTRM" {
@@ -735,6 +699,64 @@ fn bounds(random: &mut Random, index: usize) -> Vec<u8> {
     script.text
 }
 
+/// A write of a block with this value at this place, in idle in most cases.
+fn block_with(random: &mut Random, script: &mut Script, place: usize, value: u16) {
+    let mut block = quiet_block(random);
+    block[place] = value;
+    if random.chance(20) {
+        block[random.choose(&BOUNDED)] = random.word();
+    }
+    if script.mode() != Mode::Idle || random.chance(20) {
+        if random.chance(50) && script.in_pass() {
+            script.run_out();
+        } else if !random.chance(10) {
+            script.push(&power_up_line(random.number() % ID_LIMIT, random.word()));
+        }
+    }
+    let mut words = vec![0x40, 2, 1, 0, 0];
+    words.extend_from_slice(&block);
+    script.push(&words_line(b'C', &words));
+    script.push(b"S");
+    if random.chance(30) {
+        far_end::read_back(random, script, b'S');
+    }
+    for crate_number in 0..4 {
+        script.push(&bytes_line(b'F', &[crate_number]));
+    }
+}
+
+/// A dynamic block with this measurement at this place.
+fn measurements_with(random: &mut Random, script: &mut Script, place: usize, value: u16) {
+    let mut words = random_measurements(random);
+    words[place] = value;
+    if random.chance(15) {
+        words[random.below(blocks::MEASUREMENTS)] = random.word();
+    }
+    script.push(&words_line(b'D', &words));
+    if random.chance(30) {
+        far_end::read_back(random, script, b'D');
+    }
+}
+
+/// Triggers with n, settings and flags at and above their bounds.
+fn trigger_bounds(random: &mut Random, script: &mut Script) {
+    if random.chance(70) {
+        let mut block = random_block(random);
+        block[ACTIVE..].fill(0);
+        script.command(&Command::Write(&block));
+        script.command(&Command::Start(Events::Endless));
+    }
+    for n in [0, 1, 38, 39, 40, 41, 42, 63, 64, 127, 128, 255] {
+        let setting = random.choose(&[0, 14, 15, 16, 17, 31, 32, 255, 7, 8]);
+        let mut bytes = trigger_bytes(random, n, setting);
+        script.push(&bytes_line(b'G', &bytes));
+        bytes[4] = random.below(16) as u8;
+        script.push(&bytes_line(b'G', &bytes));
+        bytes[random.choose(&FLAGS)] = random.choose(&[2, 3, 16, 128, 255]);
+        script.push(&bytes_line(b'G', &bytes));
+    }
+}
+
 /// Random sessions of all letters in all states.
 fn sessions(random: &mut Random, _index: usize) -> Vec<u8> {
     let mut script = Script::new();
@@ -742,7 +764,7 @@ fn sessions(random: &mut Random, _index: usize) -> Vec<u8> {
         script.push(&power_up_line(random.number() % ID_LIMIT, random.word()));
     }
     for _ in 0..100 + random.below(200) {
-        let line = session_line(random, script.board());
+        let line = session_line(random, &script);
         script.push_styled(random, &line);
         if script.in_pass() && random.chance(3) {
             script.run_out();
@@ -752,14 +774,15 @@ fn sessions(random: &mut Random, _index: usize) -> Vec<u8> {
 }
 
 /// One valid line that suits the state in most cases.
-fn session_line(random: &mut Random, board: &Board) -> Vec<u8> {
+fn session_line(random: &mut Random, script: &Script) -> Vec<u8> {
+    let board = script.board();
     // power-up, command, clock, trigger, reply, time-up, frame, number,
-    // static, list, message, dynamic
+    // static, list, message, dynamic, far end
     let weights = match board.mode() {
-        Mode::Idle => [4, 60, 8, 6, 3, 3, 3, 4, 3, 5, 8, 4],
-        Mode::Running(_) => [1, 25, 12, 50, 2, 2, 1, 2, 3, 3, 4, 5],
-        Mode::Reprogramming => [1, 12, 3, 2, 60, 14, 8, 8, 2, 2, 3, 2],
-        Mode::Ping => [2, 12, 3, 2, 70, 16, 8, 8, 2, 2, 3, 2],
+        Mode::Idle => [4, 60, 8, 6, 3, 3, 3, 4, 3, 5, 8, 4, 35],
+        Mode::Running(_) => [1, 25, 12, 50, 2, 2, 1, 2, 3, 3, 4, 5, 35],
+        Mode::Reprogramming => [1, 12, 3, 2, 60, 14, 8, 8, 2, 2, 3, 2, 35],
+        Mode::Ping => [2, 12, 3, 2, 70, 16, 8, 8, 2, 2, 3, 2, 35],
     };
     match random.weighted(&weights) {
         0 => {
@@ -783,16 +806,20 @@ fn session_line(random: &mut Random, board: &Board) -> Vec<u8> {
             let ordinal = random.choose(&[0, 0, 1, 2, 39, 40, 255]);
             bytes_line(b'M', &[ordinal])
         }
-        _ => {
-            let mut words = random_measurements(random).to_vec();
-            match random.below(6) {
-                0 => words[random.below(blocks::MEASUREMENTS)] = random.word(),
-                1 => words.truncate(random.below(486)),
-                _ => {}
-            }
-            words_line(b'D', &words)
-        }
+        11 => dynamic_line(random),
+        _ => far_end::line(random, script),
     }
+}
+
+/// Measurements, now and then with any word at one place or too few.
+fn dynamic_line(random: &mut Random) -> Vec<u8> {
+    let mut words = random_measurements(random).to_vec();
+    match random.below(6) {
+        0 => words[random.below(blocks::MEASUREMENTS)] = random.word(),
+        1 => words.truncate(random.below(486)),
+        _ => {}
+    }
+    words_line(b'D', &words)
 }
 
 fn clock_line(random: &mut Random) -> Vec<u8> {
@@ -812,32 +839,41 @@ fn busy_crate(random: &mut Random, board: &Board) -> u8 {
     crate_byte(random)
 }
 
-fn trigger_line(random: &mut Random) -> Vec<u8> {
-    let mut bytes = [random.below(41) as u8, 0, 0, 0, random.below(16) as u8, 0, 0, 0];
-    if random.chance(4) {
-        bytes[0] = random.byte();
-    }
-    if random.chance(4) {
-        bytes[4] = random.byte();
-    }
-    for flag in [1, 2, 3, 5, 6, 7] {
+/// A trigger's bytes with flags of all kinds.
+fn trigger_bytes(random: &mut Random, n: u8, setting: u8) -> [u8; 8] {
+    let mut bytes = [n, 0, 0, 0, setting, 0, 0, 0];
+    for flag in FLAGS {
         bytes[flag] = random.below(2) as u8;
     }
-    bytes_line(b'G', &bytes)
+    bytes
 }
 
-/// A command, now and then with a wrong word.
-fn session_command(random: &mut Random, board: &Board) -> Vec<u8> {
-    let block = if random.chance(70) { quiet_block(random) } else { random_block(random) };
+fn trigger_line(random: &mut Random) -> Vec<u8> {
+    let n = if random.chance(4) { random.byte() } else { random.below(41) as u8 };
+    let setting = if random.chance(4) { random.byte() } else { random.below(16) as u8 };
+    bytes_line(b'G', &trigger_bytes(random, n, setting))
+}
+
+/// A block for a session: the pass is short in most cases.
+fn session_block(random: &mut Random) -> [u16; configuration::WORDS] {
+    if random.chance(70) {
+        quiet_block(random)
+    } else {
+        random_block(random)
+    }
+}
+
+/// A valid command that suits the state in most cases.
+fn suited_command<'a>(random: &mut Random, board: &Board, block: &'a [u16]) -> Command<'a> {
     let weights = match board.mode() {
         Mode::Idle if board.fresh() => [4, 8, 40, 3, 8, 4],
         Mode::Idle => [4, 40, 12, 3, 10, 4],
         Mode::Running(_) => [4, 3, 3, 20, 3, 3],
         _ => [4, 4, 4, 4, 4, 4],
     };
-    let command = match random.weighted(&weights) {
+    match random.weighted(&weights) {
         0 => Command::Read(random.choose(&[ReadBlock::Static, ReadBlock::Dynamic])),
-        1 => Command::Write(&block),
+        1 => Command::Write(block),
         2 => {
             let few = 1 + random.below(12) as u32;
             // A low word that is zero or small under a high word that counts.
@@ -847,7 +883,13 @@ fn session_command(random: &mut Random, board: &Board) -> Vec<u8> {
         3 => Command::Stop,
         4 => Command::Ping,
         _ => Command::Reset(random.below(CRATES) as u8),
-    };
+    }
+}
+
+/// A command, now and then with a wrong word.
+fn session_command(random: &mut Random, board: &Board) -> Vec<u8> {
+    let block = session_block(random);
+    let command = suited_command(random, board, &block);
     let mut words = vec![0; commands::HEAD + configuration::WORDS];
     let used = commands::write(&command, &mut words).expect("the command is valid");
     words.truncate(used);
@@ -859,9 +901,7 @@ fn session_command(random: &mut Random, board: &Board) -> Vec<u8> {
             3 => words[2] = random.choose(&[0, 1, 2, 3, 4, 5, 8, 9, 16, 0x0101, 0x8000]),
             4 => words[3 + random.below(2)] = random.choose(&[1, 0x0100, 0xFFFF]),
             5 if used == 7 => words[5..].fill(0),
-            6 if used > 7 => {
-                words[5 + random.choose(&[0, 1, 2, 3, 432, 433, 434, 435])] = random.word()
-            }
+            6 if used > 7 => words[commands::HEAD + random.choose(&BOUNDED)] = random.word(),
             7 => words.resize(used + 1 + random.below(8), 0x40),
             _ => words[random.below(5)] = random.word(),
         }
@@ -887,43 +927,17 @@ fn passes(random: &mut Random, _index: usize) -> Vec<u8> {
             script.push(&bytes_line(b'F', &[crate_number]));
             script.push(&bytes_line(b'N', &[crate_number]));
         }
-        let good = random.choose(&[0, 20, 50, 70, 80, 90, 97, 100]);
-        let mut open: Vec<u8> = (0..CRATES as u8).collect();
-        let mut extra = random.below(12);
-        while script.in_pass() || extra > 0 {
-            if !script.in_pass() {
-                extra -= 1;
-            }
-            open.retain(|&crate_number| script.board().outstanding_frame(crate_number).is_ok());
-            let crate_number = match random.below(30) {
-                0 => 4 + random.below(252) as u8,
-                1 => random.below(CRATES) as u8,
-                2 => 4,
-                _ if open.is_empty() => random.below(CRATES) as u8,
-                // Some crates run ahead of the others.
-                3..=12 => open[0],
-                _ => open[random.below(open.len())],
-            };
-            let item = item(random, script.board(), crate_number, good);
-            script.push_styled(random, &item.line());
-            script.push(&bytes_line(b'F', &[crate_number]));
-            script.push(&bytes_line(b'N', &[crate_number]));
-            if random.chance(6) {
-                let other = match random.below(8) {
-                    0 | 1 => b"L".to_vec(),
-                    2 | 3 => bytes_line(b'M', &[random.below(3) as u8]),
-                    4 => b"S".to_vec(),
-                    5 => clock_line(random),
-                    _ => session_command(random, script.board()),
-                };
-                script.push(&other);
-            }
-        }
+        pass_lines(random, &mut script);
         for ordinal in 0..=BOARDS as u8 {
             script.push(&bytes_line(b'M', &[ordinal]));
+            if random.chance(20) {
+                far_end::read_back(random, &mut script, b'M');
+            }
         }
-        script.push(b"L");
-        script.push(b"S");
+        for letter in *b"LS" {
+            script.push(&[letter]);
+            far_end::read_back(random, &mut script, letter);
+        }
         for crate_number in 0..5 {
             script.push(&bytes_line(b'N', &[crate_number]));
         }
@@ -934,6 +948,43 @@ fn passes(random: &mut Random, _index: usize) -> Vec<u8> {
     script.text
 }
 
+/// The lines of a pass to its end, and some more.
+fn pass_lines(random: &mut Random, script: &mut Script) {
+    let good = random.choose(&[0, 20, 50, 70, 80, 90, 97, 100]);
+    let mut open: Vec<u8> = (0..CRATES as u8).collect();
+    let mut extra = random.below(12);
+    while script.in_pass() || extra > 0 {
+        if !script.in_pass() {
+            extra -= 1;
+        }
+        open.retain(|&crate_number| script.board().outstanding_frame(crate_number).is_ok());
+        let crate_number = match random.below(30) {
+            0 => 4 + random.below(252) as u8,
+            1 => random.below(CRATES) as u8,
+            2 => 4,
+            _ if open.is_empty() => random.below(CRATES) as u8,
+            // Some crates run ahead of the others.
+            3..=12 => open[0],
+            _ => open[random.below(open.len())],
+        };
+        let item = item(random, script.board(), crate_number, good);
+        script.push_styled(random, &item.line());
+        script.push(&bytes_line(b'F', &[crate_number]));
+        script.push(&bytes_line(b'N', &[crate_number]));
+        if random.chance(25) {
+            let other = match random.below(30) {
+                0 | 1 => b"L".to_vec(),
+                2 | 3 => bytes_line(b'M', &[random.below(3) as u8]),
+                4 => b"S".to_vec(),
+                5 => clock_line(random),
+                6 | 7 => session_command(random, script.board()),
+                _ => far_end::line(random, script),
+            };
+            script.push(&other);
+        }
+    }
+}
+
 /// Runs with clock steps and triggers.
 fn runs(random: &mut Random, index: usize) -> Vec<u8> {
     let mut script = Script::new();
@@ -942,88 +993,123 @@ fn runs(random: &mut Random, index: usize) -> Vec<u8> {
     block[ACTIVE..].fill(0);
     let measurements = words_line(b'D', &random_measurements(random));
     match index {
-        0 => {
-            // The 48-bit counters pass 2^48: 65,537 steps of 2^32 - 1.
-            script.command(&Command::Write(&block));
-            script.push(b"K00000010");
-            script.command(&Command::Start(Events::Endless));
-            for step in 0..65_545 {
-                script.push(b"KFFFFFFFF");
-                if step % 8192 == 0 || step > 65_530 {
-                    script.push(&measurements);
-                    script.push(b"S");
-                }
-            }
-            script.push(b"K0000FFFF");
-            script.push(&measurements);
-            script.command(&Command::Stop);
-            script.push(&measurements);
-        }
-        1 => {
-            // 70,000 events asked for, all given, and one more.
-            script.command(&Command::Write(&block));
-            script.command(&Command::Start(Events::Counted(70_000)));
-            for event in 0..70_001 {
-                let line = trigger_line(random);
-                script.push(&line);
-                if event % 10_000 == 9_999 || event >= 69_997 {
-                    script.push(b"K00000064");
-                    script.push(&measurements);
-                    script.push(b"L");
-                }
-            }
-            // Refused triggers did not count: give what is left, and one more.
-            while let Mode::Running(_) = script.mode() {
-                script.push(b"G0400000000000000");
-            }
-            script.push(&measurements);
-            script.push(b"G0400000000000000");
-        }
+        0 => long_time(random, &mut script, &block, &measurements),
+        1 => many_events(random, &mut script, &block, &measurements),
         _ => {
             for _ in 0..1 + random.below(4) {
-                let ping_too = random.chance(15);
-                if ping_too {
-                    script.command(&Command::Ping);
-                    script.run_out();
-                }
-                let other = random_block(random);
-                let kept = random.chance(80);
-                script.command(&Command::Write(if kept { &block } else { &other }));
-                script.run_out();
-                let events = 1 + random.below(150) as u32;
-                let counted = random.chance(60);
-                script.command(&Command::Start(if counted {
-                    Events::Counted(events)
-                } else {
-                    Events::Endless
-                }));
-                for _ in 0..random.below(200) {
-                    match random.below(20) {
-                        0 => script.push(&measurements),
-                        1 => script.push(b"S"),
-                        2 => script.push(b"L"),
-                        3 => script.push(&bytes_line(b'M', &[random.below(4) as u8])),
-                        4..=7 => script.push(&clock_line(random)),
-                        8 if random.chance(40) => {
-                            let line = session_command(random, script.board());
-                            script.push(&line);
-                        }
-                        _ => {
-                            let line = trigger_line(random);
-                            script.push_styled(random, &line);
-                        }
-                    }
-                    if script.in_pass() {
-                        script.run_out();
-                    }
-                }
-                script.command(&Command::Start(Events::Endless));
-                script.command(&Command::Stop);
-                script.push(&measurements);
+                short_run(random, &mut script, &block, &measurements);
             }
         }
     }
     script.text
+}
+
+/// The 48-bit counters pass 2^48: 65,537 steps of 2^32 - 1.
+fn long_time(random: &mut Random, script: &mut Script, block: &[u16], measurements: &[u8]) {
+    script.command(&Command::Write(block));
+    script.push(b"K00000010");
+    script.command(&Command::Start(Events::Endless));
+    for step in 0..65_545 {
+        script.push(b"KFFFFFFFF");
+        if step % 8192 == 0 || step > 65_530 {
+            script.push(measurements);
+            far_end::read_back(random, script, b'D');
+            script.push(b"S");
+            far_end::read_back(random, script, b'S');
+        }
+    }
+    script.push(b"K0000FFFF");
+    script.push(measurements);
+    script.command(&Command::Stop);
+    script.push(measurements);
+}
+
+/// 70,000 events asked for, all given, and one more.
+fn many_events(random: &mut Random, script: &mut Script, block: &[u16], measurements: &[u8]) {
+    script.command(&Command::Write(block));
+    script.command(&Command::Start(Events::Counted(70_000)));
+    for event in 0..70_001 {
+        let line = trigger_line(random);
+        script.push(&line);
+        if event % 100 == 0 {
+            far_end::read_back(random, script, b'G');
+        }
+        if event % 10_000 == 9_999 || event >= 69_997 {
+            script.push(b"K00000064");
+            script.push(measurements);
+            script.push(b"L");
+        }
+    }
+    // Refused triggers did not count: give what is left, and one more.
+    while let Mode::Running(_) = script.mode() {
+        script.push(b"G0400000000000000");
+    }
+    script.push(measurements);
+    script.push(b"G0400000000000000");
+}
+
+/// A run of 0 to 200 lines.
+fn short_run(random: &mut Random, script: &mut Script, block: &[u16], measurements: &[u8]) {
+    if random.chance(15) {
+        script.command(&Command::Ping);
+        script.run_out();
+    }
+    let other = random_block(random);
+    let kept = random.chance(80);
+    script.command(&Command::Write(if kept { block } else { &other }));
+    script.run_out();
+    let events = 1 + random.below(150) as u32;
+    let counted = random.chance(60);
+    script.command(&Command::Start(if counted {
+        Events::Counted(events)
+    } else {
+        Events::Endless
+    }));
+    for _ in 0..random.below(200) {
+        run_line(random, script, measurements);
+        if script.in_pass() {
+            script.run_out();
+        }
+    }
+    script.command(&Command::Start(Events::Endless));
+    script.command(&Command::Stop);
+    script.push(measurements);
+}
+
+/// One line of a run.
+fn run_line(random: &mut Random, script: &mut Script, measurements: &[u8]) {
+    match random.below(22) {
+        0 => script.push(measurements),
+        1 => script.push(b"S"),
+        2 => script.push(b"L"),
+        3 => script.push(&bytes_line(b'M', &[random.below(4) as u8])),
+        4..=7 => script.push(&clock_line(random)),
+        8 if random.chance(40) => {
+            let line = session_command(random, script.board());
+            script.push(&line);
+        }
+        9 | 10 => {
+            let line = far_end::line(random, script);
+            script.push(&line);
+        }
+        _ => {
+            let line = trigger_line(random);
+            script.push_styled(random, &line);
+            if random.chance(20) {
+                far_end::read_back(random, script, b'G');
+            }
+        }
+    }
+}
+
+/// Serves a pass, if one is under way, to its end: the reply is good in `good`
+/// of 100 cases.
+fn serve_pass(random: &mut Random, script: &mut Script, good: usize) {
+    while script.in_pass() {
+        let crate_number = busy_crate(random, script.board());
+        let item = item(random, script.board(), crate_number, good);
+        script.push(&item.line());
+    }
 }
 
 /// A pass for demand 3: the lines before it, its items in a mixed order, and
@@ -1050,11 +1136,7 @@ pub fn pass(seed: u64, number: usize) -> Pass {
         } else {
             script.command(&Command::Ping);
         }
-        while script.in_pass() {
-            let crate_number = busy_crate(random, script.board());
-            let item = item(random, script.board(), crate_number, 80);
-            script.push(&item.line());
-        }
+        serve_pass(random, &mut script, 80);
     }
     if ping {
         script.command(&Command::Ping);
@@ -1062,7 +1144,12 @@ pub fn pass(seed: u64, number: usize) -> Pass {
         script.command(&Command::Write(&random_block(random)));
     }
     let before = script.text.split(|&byte| byte == b'\n').map(<[u8]>::to_vec).collect();
+    Pass { before, items: pass_items(random, &mut script), after: closing_lines(random) }
+}
 
+/// The items of the pass that is under way, in a mixed order: none, some, or
+/// all to its end and some more.
+fn pass_items(random: &mut Random, script: &mut Script) -> Vec<Item> {
     let good = random.choose(&[0, 30, 60, 80, 90, 100]);
     let wanted = match random.below(10) {
         0 => 0,
@@ -1085,7 +1172,7 @@ pub fn pass(seed: u64, number: usize) -> Pass {
         script.push(&item.line());
         items.push(item);
     }
-    Pass { before, items, after: closing_lines(random) }
+    items
 }
 
 /// Lines that show all of the state after a pass; where it has not ended they

@@ -1,9 +1,96 @@
-//! Runs the other replay program, and the model, on a whole script.
+//! Runs the other replay program, and the model, on whole scripts.
 
 use std::io::{self, Read, Write};
+use std::path::Path;
 use std::process::{Command, ExitStatus, Stdio};
+use std::sync::atomic::{AtomicUsize, Ordering};
+use std::sync::Mutex;
 
 use crate::replay::Replay;
+
+/// Processes of the other program at once.
+const AT_ONCE: usize = 2;
+/// Differences reported before giving up.
+const REPORTED: usize = 10;
+
+/// The arguments of a comparison: the other program's path, and then how many
+/// to compare and the seed, where they are given.
+pub fn arguments(many: usize, seed: u64) -> Option<(String, usize, u64)> {
+    let mut arguments = std::env::args().skip(1);
+    let program = arguments.next()?;
+    let many = arguments.next().map_or(Some(many), |number| number.parse().ok())?;
+    let seed = arguments.next().map_or(Some(seed), |number| number.parse().ok())?;
+    arguments.next().is_none().then_some((program, many, seed))
+}
+
+/// How far a comparison came.
+#[derive(Default)]
+pub struct Compared {
+    pub served: usize,
+    /// The lines of those that agree.
+    pub lines: usize,
+    pub differing: usize,
+}
+
+impl Compared {
+    /// Counts one more, by its lines or by its difference, which is reported.
+    fn count(&mut self, result: Result<usize, String>) {
+        self.served += 1;
+        match result {
+            Ok(lines) => self.lines += lines,
+            Err(difference) => {
+                self.differing += 1;
+                if self.differing <= REPORTED {
+                    println!("{difference}");
+                }
+            }
+        }
+    }
+}
+
+/// Compares number 0 and on, below `many`, until enough of them differ.
+/// `compare` gives how many lines agree, or the report of a difference.
+pub fn compare_all(
+    many: usize,
+    compare: impl Fn(usize) -> Result<usize, String> + Sync,
+) -> Compared {
+    let next = AtomicUsize::new(0);
+    let compared = Mutex::new(Compared::default());
+    let serve = || loop {
+        let number = next.fetch_add(1, Ordering::Relaxed);
+        if number >= many || compared.lock().expect("no thread panicked").differing >= REPORTED {
+            break;
+        }
+        let result = compare(number);
+        compared.lock().expect("no thread panicked").count(result);
+    };
+    std::thread::scope(|scope| {
+        for _ in 0..AT_ONCE {
+            scope.spawn(serve);
+        }
+    });
+    compared.into_inner().expect("no thread panicked")
+}
+
+/// Saves a script that differs in the folder `differing` beside this program,
+/// which is under target/reference, and says where.
+pub fn save(name: &str, script: &[u8]) -> String {
+    let program = match std::env::current_exe() {
+        Ok(program) => program,
+        Err(error) => return format!("not saved, this program is not found: {error}"),
+    };
+    let folder = program.with_file_name("differing");
+    let file = folder.join(name);
+    match write_in(&folder, &file, script) {
+        Ok(()) => format!("saved as {}", file.display()),
+        Err(error) => format!("not saved as {}: {error}", file.display()),
+    }
+}
+
+fn write_in(folder: &Path, file: &Path, script: &[u8]) -> io::Result<()> {
+    std::fs::create_dir_all(folder)?;
+    std::fs::write(file, script)
+}
 
 /// What the other program prints on this script, and its exit status.
 pub fn run(program: &str, script: &[u8]) -> io::Result<(Vec<u8>, ExitStatus)> {

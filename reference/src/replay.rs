@@ -2,13 +2,16 @@
 
 use std::io::Write;
 
+use crate::blocks::{self, Kind};
 use crate::board::{Board, Done, Outcome};
-use crate::commands::ReadBlock;
+use crate::commands::{self, Command, Events, ReadBlock};
 use crate::packets::{self, Trigger};
-use crate::Refusal;
+use crate::{configuration, Refusal};
 
 /// Hexadecimal digits that a line may have.
 pub const MAX_DIGITS: usize = 4096;
+/// The kinds of blocks as `Y` has them, from 01 on.
+pub const KINDS: [Kind; 4] = [Kind::Static, Kind::Dynamic, Kind::List, Kind::Failure];
 
 /// Obeys a script line by line on its current board.
 pub struct Replay {
@@ -81,18 +84,7 @@ impl Replay {
     /// Obeys the line and appends its answer; false, with nothing appended and
     /// nothing changed, if the line has another form.
     fn obey(&mut self, letter: u8, out: &mut Vec<u8>) -> bool {
-        let count = self.digits.len();
-        let right_count = match letter {
-            b'P' => count == 20,
-            b'C' | b'D' => count.is_multiple_of(4),
-            b'K' => count == 8,
-            b'G' => count == 16,
-            b'R' => count >= 2 && count.is_multiple_of(2),
-            b'T' | b'F' | b'N' | b'M' => count == 2,
-            b'S' | b'L' => count == 0,
-            _ => false,
-        };
-        if !right_count {
+        if !right_count(letter, self.digits.len()) {
             return false;
         }
         match letter {
@@ -117,6 +109,9 @@ impl Replay {
                 Ok(number) => print_text(out, format_args!("0 {number}")),
                 Err(refusal) => print_refusal(refusal, out),
             },
+            b'W' => return self.write_command(out),
+            b'X' => self.read_packet(out),
+            b'Y' => return self.read_block(out),
             _ => self.block(letter, out),
         }
         true
@@ -133,7 +128,7 @@ impl Replay {
     }
 
     fn command(&mut self, out: &mut Vec<u8>) {
-        self.read_words();
+        self.read_words(0);
         match self.board.obey(&self.words) {
             Ok((done, used)) => {
                 print_text(out, format_args!("0 {used} "));
@@ -180,8 +175,7 @@ impl Replay {
     }
 
     fn reply(&mut self, out: &mut Vec<u8>) {
-        self.bytes.clear();
-        self.bytes.extend(self.digits.chunks_exact(2).map(|pair| pair[0] << 4 | pair[1]));
+        self.read_bytes();
         let answer = self.board.reply(self.bytes[0], &self.bytes[1..]);
         print_answer(answer, out);
     }
@@ -195,7 +189,7 @@ impl Replay {
                 self.board.failure_message(ordinal, &mut self.block)
             }
             _ => {
-                self.read_words();
+                self.read_words(0);
                 self.board.dynamic_block(&self.words, &mut self.block)
             }
         };
@@ -203,6 +197,75 @@ impl Replay {
             Ok(count) => print_words(&self.block[..count], out),
             Err(refusal) => print_refusal(refusal, out),
         }
+    }
+
+    /// `W`: the writer of commands; false if the line has another form.
+    fn write_command(&mut self, out: &mut Vec<u8>) -> bool {
+        let Some(command) = self.far_command() else {
+            return false;
+        };
+        let mut words = [0; commands::HEAD + configuration::WORDS];
+        match commands::write(&command, &mut words) {
+            Ok(used) => print_words(&words[..used], out),
+            Err(refusal) => print_refusal(refusal, out),
+        }
+        true
+    }
+
+    /// The command that a `W` line asks for.
+    fn far_command(&mut self) -> Option<Command<'_>> {
+        let count = self.digits.len();
+        Some(match (self.byte(0), count) {
+            (0x01, 4) => match self.byte(1) {
+                1 => Command::Read(ReadBlock::Static),
+                2 => Command::Read(ReadBlock::Dynamic),
+                _ => return None,
+            },
+            (0x02, _) if count % 4 == 2 => {
+                self.read_words(2);
+                Command::Write(&self.words)
+            }
+            (0x04, 2) => Command::Start(Events::Endless),
+            (0x04, 10) => Command::Start(Events::Counted(self.number(2, 10) as u32)),
+            (0x08, 2) => Command::Stop,
+            (0x10, 2) => Command::Ping,
+            (0x20, 4) => Command::Reset(self.byte(1)),
+            _ => return None,
+        })
+    }
+
+    /// `X`: the reader of trigger packets.
+    fn read_packet(&mut self, out: &mut Vec<u8>) {
+        self.read_bytes();
+        match packets::read(&self.bytes) {
+            Ok((number, trigger)) => {
+                print_text(out, format_args!("0 {number} {}", trigger.n));
+                let flags = [trigger.external_1, trigger.external_2, trigger.tim_source];
+                print_flags(&flags, out);
+                print_text(out, format_args!(" {}", trigger.pulser_setting));
+                print_flags(&[trigger.pedestal, trigger.lp_2, trigger.lp_1], out);
+            }
+            Err(refusal) => print_refusal(refusal, out),
+        }
+    }
+
+    /// `Y`: the reader of blocks; false if there is no such kind.
+    fn read_block(&mut self, out: &mut Vec<u8>) -> bool {
+        let Some(&kind) = usize::from(self.byte(0)).checked_sub(1).and_then(|i| KINDS.get(i))
+        else {
+            return false;
+        };
+        self.read_words(2);
+        match blocks::read(kind, &self.words) {
+            Ok((header, body)) => {
+                let blocks::Header { board_id, firmware_id, trigger_counter, timestamp } = header;
+                print_text(out, format_args!("0 {board_id:016X} {firmware_id:04X} "));
+                print_text(out, format_args!("{trigger_counter} {timestamp} "));
+                push_words(body, out);
+            }
+            Err(refusal) => print_refusal(refusal, out),
+        }
+        true
     }
 
     /// The number in digits `from` to `to`.
@@ -214,13 +277,36 @@ impl Replay {
         self.digits[2 * place] << 4 | self.digits[2 * place + 1]
     }
 
-    fn read_words(&mut self) {
+    fn read_bytes(&mut self) {
+        self.bytes.clear();
+        self.bytes.extend(self.digits.chunks_exact(2).map(|pair| pair[0] << 4 | pair[1]));
+    }
+
+    /// Reads the words that stand in the digits from `from` on.
+    fn read_words(&mut self, from: usize) {
         self.words.clear();
         self.words.extend(
-            self.digits
+            self.digits[from..]
                 .chunks_exact(4)
                 .map(|four| four.iter().fold(0u16, |sum, &digit| sum << 4 | u16::from(digit))),
         );
+    }
+}
+
+/// Whether a line with this letter may have so many digits.
+fn right_count(letter: u8, count: usize) -> bool {
+    match letter {
+        b'P' => count == 20,
+        b'C' | b'D' => count.is_multiple_of(4),
+        b'K' => count == 8,
+        b'G' => count == 16,
+        b'R' => count >= 2 && count.is_multiple_of(2),
+        b'T' | b'F' | b'N' | b'M' => count == 2,
+        b'S' | b'L' => count == 0,
+        b'W' => count >= 2,
+        b'X' => count.is_multiple_of(2),
+        b'Y' => count % 4 == 2,
+        _ => false,
     }
 }
 
@@ -254,23 +340,34 @@ fn print_answer(answer: Result<crate::board::Answer, Refusal>, out: &mut Vec<u8>
 
 const DIGITS: &[u8; 16] = b"0123456789ABCDEF";
 
-fn push_byte(byte: u8, out: &mut Vec<u8>) {
-    out.push(DIGITS[usize::from(byte >> 4)]);
-    out.push(DIGITS[usize::from(byte & 0x0F)]);
+/// Appends the digits of these bytes.
+pub fn push_bytes(bytes: &[u8], out: &mut Vec<u8>) {
+    for &byte in bytes {
+        out.push(DIGITS[usize::from(byte >> 4)]);
+        out.push(DIGITS[usize::from(byte & 0x0F)]);
+    }
+}
+
+/// Appends the digits of these words.
+pub fn push_words(words: &[u16], out: &mut Vec<u8>) {
+    for &word in words {
+        push_bytes(&word.to_be_bytes(), out);
+    }
 }
 
 fn print_bytes(bytes: &[u8], out: &mut Vec<u8>) {
     out.extend_from_slice(b"0 ");
-    for &byte in bytes {
-        push_byte(byte, out);
-    }
+    push_bytes(bytes, out);
 }
 
 fn print_words(words: &[u16], out: &mut Vec<u8>) {
     out.extend_from_slice(b"0 ");
-    for &word in words {
-        push_byte((word >> 8) as u8, out);
-        push_byte(word as u8, out);
+    push_words(words, out);
+}
+
+fn print_flags(flags: &[bool], out: &mut Vec<u8>) {
+    for &flag in flags {
+        print_text(out, format_args!(" {}", u8::from(flag)));
     }
 }
 
@@ -293,7 +390,7 @@ mod tests {
         assert_eq!(run(""), "");
         assert_eq!(run("# note\n\nK0000000a"), "0\n");
         assert_eq!(run("K 0 0 0 0 0 0 0 1 \n K00000001\nk00000001\nK0000001"), "0\n?\n?\n?\n");
-        assert_eq!(run("K00000001\r\nX\nS0\nC004\nR\nR0\n\t"), "?\n?\n?\n?\n?\n?\n?\n");
+        assert_eq!(run("K00000001\r\nX0\nS0\nC004\nR\nR0\n\t"), "?\n?\n?\n?\n?\n?\n?\n");
         assert_eq!(run("P0200000000000000 0001\nP01FFFFFFFFFFFFFF 0001"), "20\n0\n");
         assert_eq!(run(&format!("C{}", "0".repeat(4096))), "2 0\n");
         assert_eq!(run(&format!("C{}", "0".repeat(4100))), "?\n");
@@ -341,5 +438,74 @@ mod tests {
             "3FFF".repeat(484)
         );
         assert_eq!(printed.trim_end(), expected);
+    }
+
+    #[test]
+    fn written_commands() {
+        let script = "W0101\nW 01 02\nW04\nW04 00011170\nW08\nW10\nW2000\nW2003";
+        let expected = "0 00400001000100000000\n0 00400001000200000000\n0 00400004000100000000\n\
+             0 0040000400020000000000011170\n0 00400008000000000000\n0 00400010000000000000\n\
+             0 00400020000100000000\n0 00400020000800000000\n";
+        assert_eq!(run(script), expected);
+        assert_eq!(run("W0400000000\nW2004\nW20FF\nW02\nW020000"), "7\n11\n11\n6\n6\n");
+        let mut words = vec!["00FF"; 436];
+        words[3] = "0fff";
+        let block = words.concat();
+        let printed = format!("0 00400002000100000000{}\n", block.to_uppercase());
+        assert_eq!(run(&format!("W02{block}")), printed);
+        words[435] = "0400";
+        assert_eq!(run(&format!("W02{}", words.concat())), "8 435\n");
+        assert_eq!(run(&format!("W02{}", "0".repeat(4092))), "6\n");
+    }
+
+    #[test]
+    fn other_forms_of_the_far_end() {
+        let lines = "W\nW0\nW00\nW03\nW0100\nW0103\nW01\nW010101\nW02000\nW0400\nW040001117\n\
+             W0800\nW1000\nW20\nW200000\nX0\nY\nY0\nY00\nY05\nYFF\nY01000";
+        assert_eq!(run(lines), "?\n".repeat(22));
+        assert_eq!(run(&format!("W02{}", "0".repeat(4096))), "?\n");
+        assert_eq!(run(&format!("X{}", "0".repeat(4096))), "13\n");
+    }
+
+    #[test]
+    fn packets_of_the_paper() {
+        let script = "X01000000000029\nX0100000010007E\nX0200000000044E\nX\nX010000001000\n\
+             X0100000010007F";
+        let expected =
+            "0 1 0 0 0 0 0 0 0 0\n0 1 4 0 0 0 0 0 0 0\n0 2 0 0 0 0 0 1 0 0\n13\n13\n14\n";
+        assert_eq!(run(script), expected);
+        // Each field by itself: byte 4, byte 5, and the number's low byte first.
+        for (bytes, printed) in [
+            ([1, 2, 3, 4, 0xA0, 0x00], "67305985 40 0 0 0 0 0 0 0"),
+            ([0, 0, 0, 0, 0x01, 0x00], "0 0 1 0 0 0 0 0 0"),
+            ([0, 0, 0, 0, 0x02, 0x00], "0 0 0 1 0 0 0 0 0"),
+            ([0, 0, 0, 0, 0x00, 0x80], "0 0 0 0 1 0 0 0 0"),
+            ([0, 0, 0, 0, 0x00, 0x78], "0 0 0 0 0 15 0 0 0"),
+            ([0, 0, 0, 0, 0x00, 0x02], "0 0 0 0 0 0 0 1 0"),
+            ([0xFF, 0xFF, 0xFF, 0xFF, 0x00, 0x01], "4294967295 0 0 0 0 0 0 0 1"),
+        ] {
+            let digits: String = bytes.iter().map(|byte| format!("{byte:02X}")).collect();
+            let crc = crate::crc::crc8(&bytes);
+            assert_eq!(run(&format!("X{digits}{crc:02X}")), format!("0 {printed}\n"));
+        }
+    }
+
+    #[test]
+    fn blocks_read_back() {
+        let head = "01FFFFFFFFFFFFFF ABCD 00011170 000100000002 0000";
+        let fields = "0 01FFFFFFFFFFFFFF ABCD 70000 4294967298";
+        for (kind, words) in [("01", 436), ("02", 487), ("03", 249), ("04", 29)] {
+            let body = "00ab".repeat(words);
+            let printed = format!("{fields} {}\n", body.to_uppercase());
+            assert_eq!(run(&format!("Y {kind} {head} {body}")), printed);
+            assert_eq!(run(&format!("Y{kind}{head}{body}0000")), "6\n");
+            assert_eq!(run(&format!("Y{kind}{}", &head.replace(' ', "")[4..])), "6\n");
+            let wide = head.replacen("01", "02", 1);
+            assert_eq!(run(&format!("Y{kind}{wide}{body}")), "20\n");
+            let high = "4000".repeat(words);
+            let expected =
+                ["8 0\n", "8 7\n", "20\n", "20\n"][usize::from(kind.as_bytes()[1] - b'1')];
+            assert_eq!(run(&format!("Y{kind}{wide}{high}")), expected);
+        }
     }
 }

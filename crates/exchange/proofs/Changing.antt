@@ -11,10 +11,12 @@ use Rattle.refusals.specs.Refusals.{numberOf, placeOf}
 use Rattle.refusals.specs.Tables.{Answer, given, refused, lowest}
 use Rattle.refusals.specs.Writing.{writtenMeaning}
 use Rattle.refusals.specs.declared.Refusal.{Refusal}
+use Rattle.refusals.proofs.Writing.{room-writing}
 use Rattle.numbers.specs.Numbers.{number}
 use Rattle.numbers.proofs.Listed.{listed}
 use Rattle.words.specs.Words.{wordsIn}
 use Rattle.words.proofs.Bytes.{length-words}
+use Rattle.words.proofs.Front.{number-in}
 use Rattle.packets.specs.Packets.{firstSix, packetBytes}
 use Rattle.packets.specs.declared.Fields.{Fields}
 use Rattle.acceptance.specs.Acceptance.{answerMeaning}
@@ -33,12 +35,14 @@ use Rattle.board.specs.declared.ReplyResult.{ReplyResult}
 use Rattle.texts.specs.Texts.{inBytes}
 use Rattle.texts.specs.declared.Response.{Response}
 use Rattle.texts.specs.declared.Response.the-variants.{One}
-use Rattle.exchange.specs.Orders.{Order, powerUp, command, clockStep, trigger, reply, timeUp, otherForm, taking}
-use Rattle.exchange.specs.Orders.{areFields, fieldsFrom, oneByte, anyWords, replyFrom, powerUpOrder, clockOrder, triggerOrder}
-use Rattle.exchange.specs.Exchange.{refusalPrinted, powerUpPrinted, commandPrinted, outcomePrinted, printedAnswer, afterPowerUp, boardAfterOrder}
-use Rattle.exchange.specs.CodeShape.{Prints, PrintsWrittenBytes, Answers, AnswersInBytes}
+use Rattle.responses.specs.Responses.{refusalPrinted, commandPrinted, outcomePrinted, Prints, PrintsWrittenBytes}
+use Rattle.responses.proofs.Writing.{due-response}
+use Rattle.script.specs.Forms.{taking, oneByte, anyWords}
+use Rattle.exchange.specs.Orders.{Order, powerUp, command, clockStep, trigger, reply, timeUp, otherForm}
+use Rattle.exchange.specs.Orders.{areFields, fieldsFrom, replyFrom, powerUpOrder, clockOrder, triggerOrder}
+use Rattle.exchange.specs.Exchange.{powerUpPrinted, printedAnswer, afterPowerUp, boardAfterOrder}
+use Rattle.exchange.specs.CodeShape.{Answers, AnswersInBytes}
 use Rattle.exchange.specs.declared.Answered.{Answered}
-use Rattle.exchange.proofs.Writing.{room-writing, due-response}
 use Rattle.exchange.proofs.Asking.{taken}
 
 abbrev answered : Response → Board → Answered
@@ -52,8 +56,8 @@ answers-as β o p a e h =
 -- ---- an order in another form
 
 module _ (β : Board) (a : Answered) (h : Answers β otherForm a) where
-  pub unserved : (t : Bool) (o : Order) → t ≡ false → Answers β (taking t o) a
-  unserved t o e = answers-as β otherForm (taking t o) a (sym (ap (λ (u : Bool). taking u o) e)) h
+  pub unserved : (t : Bool) (o : Order) → t ≡ false → Answers β (taking otherForm t o) a
+  unserved t o e = answers-as β otherForm (taking otherForm t o) a (sym (ap (λ (u : Bool). taking otherForm u o) e)) h
 
   pub no-reply : (b : List ℕ) → length b ≡ 0 → Answers β (replyFrom b) a
   no-reply [] e = h
@@ -101,10 +105,10 @@ module _ (β : Board) (b w : List ℕ) (l : length b ≡ 10) (e : w ≡ wordsIn 
 -- ---- C
 
 pub commanded : (β : Board) (b w : List ℕ) (s : Response) (d : CommandResult) → length b % 2 ≡ 0 → w ≡ wordsIn b → Obeys β w d
-    → Prints s (commandPrinted (d .used) (answerMeaning (d .answer))) → Answers β (anyWords command b) (answered s (d .board))
+    → Prints s (commandPrinted (d .used) (answerMeaning (d .answer))) → Answers β (anyWords otherForm command b) (answered s (d .board))
 unfolding printedAnswer boardAfterOrder
 commanded β b w s d l e h k =
-    answers-as β (command w) (anyWords command b) _ (ap command e ∙ sym (taken _ _ (eq-eqb _ _ l)))
+    answers-as β (command w) (anyWords otherForm command b) _ (ap command e ∙ sym (taken _ _ (eq-eqb _ _ l)))
     (record { response = λ bytes words. k bytes words ∙ ap₂ commandPrinted (h .used) (h .answer); board = h .board })
 
 -- ---- K
@@ -114,9 +118,7 @@ pub clocked : (β : Board) (b w : List ℕ) (ticks : ℕ) (next : Board) → len
     → Answers β (clockOrder b) (answered (One 0) next)
 unfolding printedAnswer boardAfterOrder
 clocked β b w ticks next l e et en =
-    let n : length w ≡ 2 = ap length e ∙ length-words b ∙ (let k : length b / 2 ≡ 2 = omega arith in k) in
-    answers-as β (clockStep ticks) (clockOrder b) _
-    (ap clockStep (et ∙ ap (number 65536) (listed w 2 n ∙ e)) ∙ sym (taken _ _ (eq-eqb _ _ l)))
+    answers-as β (clockStep ticks) (clockOrder b) _ (ap clockStep (et ∙ number-in b w l e) ∙ sym (taken _ _ (eq-eqb _ _ l)))
     (record { response = λ bytes words. refl; board = en })
 
 -- ---- G
@@ -153,8 +155,8 @@ module _ (β : Board) (s : Response) (r : ReplyResult) (k : Prints s (outcomePri
       answers-as β (reply c bytes) (reply c b) _ (ap (reply c) e)
       (record { response = λ x y. k x y ∙ ap outcomePrinted (h .answer); board = h .board })
 
-  pub timed-up : (b : List ℕ) → length b ≡ 1 → Replies β (getD b 0 0) noReply r → Answers β (oneByte timeUp b) (answered s (r .board))
+  pub timed-up : (b : List ℕ) → length b ≡ 1 → Replies β (getD b 0 0) noReply r → Answers β (oneByte otherForm timeUp b) (answered s (r .board))
   unfolding printedAnswer boardAfterOrder
   timed-up b l h =
-      answers-as β (timeUp (getD b 0 0)) (oneByte timeUp b) _ (sym (taken _ _ (eq-eqb _ _ l)))
+      answers-as β (timeUp (getD b 0 0)) (oneByte otherForm timeUp b) _ (sym (taken _ _ (eq-eqb _ _ l)))
       (record { response = λ x y. k x y ∙ ap outcomePrinted (h .answer); board = h .board })

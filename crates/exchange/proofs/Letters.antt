@@ -1,78 +1,79 @@
 -- The letters' table: what each letter asks for, and that a letter that only asks leaves the board.
 -- Assumes nothing.
 use Prim.Native.Nat.{ℕ, _%_}
-use Prim.Native.Char.{code}
 use mathlib.Core.Path.{_≡_, refl, sym, ap, _∙_}
 use mathlib.Core.Bool.{Bool, true, false, cond}
-use mathlib.Core.List.{List, [], _∷_}
+use mathlib.Core.List.{List, [], _∷_, _++_}
 use lib.Dec.{eqb}
-use lib.ListN.{length, getD}
+use lib.ListN.{length, getD, take, drop}
 use borrow.Author.Tests.{ne-eqb}
 use Rattle.words.specs.Words.{wordsIn}
 use Rattle.board.specs.declared.Board.{Board}
 use Rattle.texts.specs.Texts.{Printed, question, responseMeaning}
 use Rattle.texts.specs.declared.Response.{Response}
-use Rattle.exchange.specs.Orders.{Order, otherForm, command, timeUp, outstanding, framesSent, static, ftuList, failure, dynamic}
-use Rattle.exchange.specs.Orders.{oneByte, noByte, anyWords, replyFrom, powerUpOrder, clockOrder, triggerOrder, Row, found, asking, orderOf}
+use Rattle.script.specs.Forms.{oneByte, noByte, anyWords, Row, found}
+use Rattle.far_end.specs.FarEnd.{readPacket, commandFrom, blockFrom}
+use Rattle.exchange.specs.Orders.{Order, otherForm, command, timeUp, outstanding, framesSent, static, ftuList, failure, dynamic, farEnd}
+use Rattle.exchange.specs.Orders.{replyFrom, powerUpOrder, clockOrder, triggerOrder, letters, orderOf}
 use Rattle.exchange.specs.Exchange.{printedAnswer, boardAfterOrder}
-use Rattle.exchange.specs.CodeShape.{askedBy, Answers, AnswersInBytes, AnswersBoth}
+use Rattle.exchange.specs.CodeShape.{boardOrder, askedBy, Answers, AnswersInBytes, AnswersBoth}
 use Rattle.exchange.specs.declared.Answered.{Answered}
 
 module _ (letter : ℕ) (b : List ℕ) where
   -- ---- letters that only ask
-  pub asks-F : letter ≡ 70 → oneByte outstanding b ≡ askedBy letter b
+  pub asks-F : letter ≡ 70 → oneByte otherForm outstanding b ≡ askedBy letter b
   unfolding askedBy
   asks-F e = rw e
 
-  pub asks-N : letter ≡ 78 → oneByte framesSent b ≡ askedBy letter b
+  pub asks-N : letter ≡ 78 → oneByte otherForm framesSent b ≡ askedBy letter b
   unfolding askedBy
   asks-N e = rw e
 
-  pub asks-S : letter ≡ 83 → noByte static b ≡ askedBy letter b
+  pub asks-S : letter ≡ 83 → noByte otherForm static b ≡ askedBy letter b
   unfolding askedBy
   asks-S e = rw e
 
-  pub asks-L : letter ≡ 76 → noByte ftuList b ≡ askedBy letter b
+  pub asks-L : letter ≡ 76 → noByte otherForm ftuList b ≡ askedBy letter b
   unfolding askedBy
   asks-L e = rw e
 
-  pub asks-M : letter ≡ 77 → oneByte failure b ≡ askedBy letter b
+  pub asks-M : letter ≡ 77 → oneByte otherForm failure b ≡ askedBy letter b
   unfolding askedBy
   asks-M e = rw e
 
-  pub asks-D : letter ≡ 68 → anyWords dynamic b ≡ askedBy letter b
+  pub asks-D : letter ≡ 68 → anyWords otherForm dynamic b ≡ askedBy letter b
   unfolding askedBy
   asks-D e = rw e
 
   -- ---- letters that may change the board
-  pub orders-P : letter ≡ 80 → powerUpOrder b ≡ orderOf letter b
-  unfolding orderOf
+  pub orders-P : letter ≡ 80 → powerUpOrder b ≡ boardOrder letter b
+  unfolding boardOrder
   orders-P e = rw e
 
-  pub orders-C : letter ≡ 67 → anyWords command b ≡ orderOf letter b
-  unfolding orderOf
+  pub orders-C : letter ≡ 67 → anyWords otherForm command b ≡ boardOrder letter b
+  unfolding boardOrder
   orders-C e = rw e
 
-  pub orders-K : letter ≡ 75 → clockOrder b ≡ orderOf letter b
-  unfolding orderOf
+  pub orders-K : letter ≡ 75 → clockOrder b ≡ boardOrder letter b
+  unfolding boardOrder
   orders-K e = rw e
 
-  pub orders-G : letter ≡ 71 → triggerOrder b ≡ orderOf letter b
-  unfolding orderOf
+  pub orders-G : letter ≡ 71 → triggerOrder b ≡ boardOrder letter b
+  unfolding boardOrder
   orders-G e = rw e
 
-  pub orders-R : letter ≡ 82 → replyFrom b ≡ orderOf letter b
-  unfolding orderOf
+  pub orders-R : letter ≡ 82 → replyFrom b ≡ boardOrder letter b
+  unfolding boardOrder
   orders-R e = rw e
 
-  pub orders-T : letter ≡ 84 → oneByte timeUp b ≡ orderOf letter b
-  unfolding orderOf
+  pub orders-T : letter ≡ 84 → oneByte otherForm timeUp b ≡ boardOrder letter b
+  unfolding boardOrder
   orders-T e = rw e
 
   -- ---- other letters
   only-asked : (letter ≡ 80 → ⊥) → (letter ≡ 67 → ⊥) → (letter ≡ 75 → ⊥) → (letter ≡ 71 → ⊥) → (letter ≡ 82 → ⊥) → (letter ≡ 84 → ⊥)
-      → askedBy letter b ≡ orderOf letter b
-  unfolding askedBy orderOf
+      → askedBy letter b ≡ boardOrder letter b
+  unfolding askedBy boardOrder
   only-asked p c k g r t = simp (ne-eqb _ _ p, ne-eqb _ _ c, ne-eqb _ _ k, ne-eqb _ _ g, ne-eqb _ _ r, ne-eqb _ _ t)
 
   module _ (β : Board) where
@@ -86,14 +87,14 @@ module _ (letter : ℕ) (b : List ℕ) where
     keeps false o p h k = k
 
     -- each order of a table leaves the board
-    abbrev Keep : List Row → Type 0
+    abbrev Keep : List (Row Order) → Type 0
     Keep [] = Unit
     Keep (r ∷ rs) = (boardAfterOrder β (r .order b) ≡ β) × Keep rs
 
-    found-keeps : (rs : List Row) → Keep rs → boardAfterOrder β (found rs letter b) ≡ β
+    found-keeps : (rs : List (Row Order)) → Keep rs → boardAfterOrder β (found otherForm rs letter b) ≡ β
     unfolding boardAfterOrder
     found-keeps [] k = refl
-    found-keeps (r ∷ rs) k = keeps (eqb letter (code (r .letter))) (r .order b) (found rs letter b) (k .0) (found-keeps rs (k .1))
+    found-keeps (r ∷ rs) k = keeps (eqb letter (r .key)) (r .order b) (found otherForm rs letter b) (k .0) (found-keeps rs (k .1))
 
     -- an order that only asks leaves the board
     asked-keeps : boardAfterOrder β (askedBy letter b) ≡ β
@@ -108,14 +109,39 @@ module _ (letter : ℕ) (b : List ℕ) where
         let l = keeps none ftuList otherForm refl refl in
         let m = keeps one (failure (getD b 0 0)) otherForm refl refl in
         let d = keeps even (dynamic (wordsIn b)) otherForm refl refl in
-        found-keeps asking (f, (n, (s, (l, (m, (d, tt))))))
+        found-keeps (drop 6 (take 12 letters)) (f, (n, (s, (l, (m, (d, tt))))))
 
     pub orders-other : (letter ≡ 80 → ⊥) → (letter ≡ 67 → ⊥) → (letter ≡ 75 → ⊥) → (letter ≡ 71 → ⊥) → (letter ≡ 82 → ⊥) → (letter ≡ 84 → ⊥)
         → (s : Response) (bytes words : List ℕ) → responseMeaning s bytes words ≡ printedAnswer β (askedBy letter b)
-        → AnswersBoth β (orderOf letter b) (record { response = s; board = β }) bytes words
+        → AnswersBoth β (boardOrder letter b) (record { response = s; board = β }) bytes words
     orders-other p c k g r t s bytes words h =
-        let e : askedBy letter b ≡ orderOf letter b = only-asked p c k g r t in
+        let e : askedBy letter b ≡ boardOrder letter b = only-asked p c k g r t in
         record { response = h ∙ ap (printedAnswer β) e; board = sym asked-keeps ∙ ap (boardAfterOrder β) e }
+
+-- ---- the far end's letters
+
+-- rows at the end that do not have the key
+more-rows : (rs more : List (Row Order)) (key : ℕ) (b : List ℕ) → found otherForm more key b ≡ otherForm
+    → found otherForm rs key b ≡ found otherForm (rs ++ more) key b
+more-rows [] more key b e = sym e
+more-rows (r ∷ rs) more key b e = ap (cond (eqb key (r .key)) (r .order b)) (more-rows rs more key b e)
+
+module _ (letter : ℕ) (b : List ℕ) where
+  pub far-W : letter ≡ 87 → farEnd (commandFrom b) ≡ orderOf letter b
+  unfolding orderOf
+  far-W e = rw e
+
+  pub far-X : letter ≡ 88 → farEnd (readPacket b) ≡ orderOf letter b
+  unfolding orderOf
+  far-X e = rw e
+
+  pub far-Y : letter ≡ 89 → farEnd (blockFrom b) ≡ orderOf letter b
+  unfolding orderOf
+  far-Y e = rw e
+
+  pub on-board : (letter ≡ 87 → ⊥) → (letter ≡ 88 → ⊥) → (letter ≡ 89 → ⊥) → boardOrder letter b ≡ orderOf letter b
+  unfolding boardOrder orderOf
+  on-board w x y = more-rows (take 12 letters) (drop 12 letters) letter b (simp (ne-eqb _ _ w, ne-eqb _ _ x, ne-eqb _ _ y))
 
 -- ---- a letter's order, answered
 

@@ -1,6 +1,4 @@
 -- Laws that belong to no one function.
-pub mod Printing
-pub mod Writing
 pub mod Asking
 pub mod Fields
 pub mod Changing

@@ -15,9 +15,11 @@ use Rattle.script.specs.ByCharacter.{orderIn, lineIn}
 use Rattle.script.specs.declared.Form.the-variants.{Empty, Comment, Order, Malformed}
 use Rattle.script.specs.declared.Reading.{Reading}
 use Rattle.texts.specs.Texts.{question, textOf, responseMeaning, inFront}
-use Rattle.exchange.specs.Orders.{orderOf}
-use Rattle.exchange.specs.Exchange.{printedFor, boardAfterLine, ServesLine}
-use Rattle.exchange.specs.CodeShape.{AnswersBoth}
+use Rattle.far_end.specs.FarEnd.{FarEndOrder, PrintsLine}
+use Rattle.exchange.specs.Orders.{farEnd, orderOf}
+use Rattle.exchange.specs.Orders as orders
+use Rattle.exchange.specs.Exchange.{printedAnswer, boardAfterOrder, printedFor, boardAfterLine, ServesLine}
+use Rattle.exchange.specs.CodeShape.{AnswersBoth, ServesOrder}
 use Rattle.exchange.specs.declared.Answered.{Answered}
 use Rattle.exchange.specs.declared.ServedLine.{ServedLine}
 
@@ -91,15 +93,37 @@ pub questioned : (β : Board) (text : List ℕ) (n : ℕ) (after : List ℕ)
 unfolding printedFor boardAfterLine
 questioned β text n after l p = record { length = l; printed = p; board = refl }
 
-pub ordered : (β : Board) (letter : ℕ) (bytes : List ℕ) (a : Answered) (out words text : List ℕ) (n : ℕ) (after : List ℕ)
-    → AnswersBoth β (orderOf letter bytes) a out words
+-- an order on the board
+pub ordered : (β : Board) (o : orders.Order) (a : Answered) (out words text : List ℕ) (n : ℕ) (after : List ℕ)
+    → AnswersBoth β o a out words
     → n ≡ length (textOf (responseMeaning (a .response) out words))
     → after ≡ inFront (textOf (responseMeaning (a .response) out words)) text
-    → ServesLine β (order letter bytes) text (record { length = n; board = a .board }) after
-unfolding printedFor boardAfterLine
-ordered β letter bytes a out words text n after h l p =
+    → ServesOrder β o text (record { length = n; board = a .board }) after
+ordered β o a out words text n after h l p =
     record {
       length = l ∙ ap (λ r. length (textOf r)) (h .response);
       printed = p ∙ ap (λ r. inFront (textOf r) text) (h .response);
       board = h .board;
     }
+
+-- an order of the far end
+far-ordered : (β : Board) (o : FarEndOrder) (text : List ℕ) (n : ℕ) (after : List ℕ) → PrintsLine o text n after
+    → ServesOrder β (farEnd o) text (record { length = n; board = β }) after
+unfolding printedAnswer boardAfterOrder
+far-ordered β o text n after h = record { length = h .length; printed = h .printed; board = refl }
+
+-- an order that a letter asks for
+pub by-letter : (β : Board) (letter : ℕ) (bytes : List ℕ) (o : orders.Order) (text : List ℕ) (s : ServedLine) (after : List ℕ) → o ≡ orderOf letter bytes
+    → ServesOrder β o text s after → ServesLine β (order letter bytes) text s after
+unfolding printedFor boardAfterLine
+by-letter β letter bytes o text s after e h =
+    record {
+      length = h .length ∙ ap (λ x. length (textOf (printedAnswer β x))) e;
+      printed = h .printed ∙ ap (λ x. inFront (textOf (printedAnswer β x)) text) e;
+      board = h .board ∙ ap (boardAfterOrder β) e;
+    }
+
+-- an order of the far end that a letter asks for
+pub far-letter : (β : Board) (letter : ℕ) (bytes : List ℕ) (o : FarEndOrder) (text : List ℕ) (n : ℕ) (after : List ℕ) → farEnd o ≡ orderOf letter bytes
+    → PrintsLine o text n after → ServesLine β (order letter bytes) text (record { length = n; board = β }) after
+far-letter β letter bytes o text n after e h = by-letter β letter bytes (farEnd o) text _ after e (far-ordered β o text n after h)

@@ -2,40 +2,23 @@
 use Prim.Native.Nat.{ℕ}
 use mathlib.Core.Path.{_≡_}
 use mathlib.Core.List.{List}
-use lib.ListN.{take}
-use Rattle.refusals.specs.Tables.{Answer, given, refused}
+use lib.ListN.{length, take, drop}
+use Rattle.script.specs.Forms.{found}
 use Rattle.board.specs.declared.Board.{Board}
-use Rattle.texts.specs.declared.Response.{Response}
-use Rattle.texts.specs.Texts.{Printed, inBytes, inWords, responseMeaning}
-use Rattle.exchange.specs.Orders.{Order, found, asking}
-use Rattle.exchange.specs.Exchange.{refusalPrinted, printedAnswer, boardAfterOrder}
+use Rattle.texts.specs.Texts.{responseMeaning, textOf, inFront}
+use Rattle.responses.specs.Responses.{Prints}
+use Rattle.responses.specs.CodeShape.{PrintsInBytes}
+use Rattle.exchange.specs.Orders.{Order, otherForm, letters}
+use Rattle.exchange.specs.Exchange.{printedAnswer, boardAfterOrder}
 use Rattle.exchange.specs.declared.Answered.{Answered}
+use Rattle.exchange.specs.declared.ServedLine.{ServedLine}
 
--- the letters that only ask, alone
+-- the letters of the board alone, the first twelve; and of these, those that only ask, the last six
+unfoldable pub boardOrder : ℕ → List ℕ → Order
+boardOrder letter b = found otherForm (take 12 letters) letter b
+
 unfoldable pub askedBy : ℕ → List ℕ → Order
-askedBy letter b = found asking letter b
-
--- what a writer answered: how much it wrote, printed in its way
-abbrev pub writtenPrinted : (ℕ → Printed) → Answer ℕ → Printed
-writtenPrinted print (given n) = print n
-writtenPrinted print (refused n p) = refusalPrinted n p
-
--- s prints this, whatever bytes and words stand beside it; with these bytes; with these words
-abbrev pub Prints : Response → Printed → Type 0
-Prints s r = (bytes words : List ℕ) → responseMeaning s bytes words ≡ r
-
-abbrev pub PrintsInBytes : Response → List ℕ → Printed → Type 0
-PrintsInBytes s bytes r = (words : List ℕ) → responseMeaning s bytes words ≡ r
-
-abbrev pub PrintsInWords : Response → List ℕ → Printed → Type 0
-PrintsInWords s words r = (bytes : List ℕ) → responseMeaning s bytes words ≡ r
-
--- s prints what a writer answered, whose bytes, or words, stand beside it
-abbrev pub PrintsWrittenBytes : Response → Answer ℕ → Type 0
-PrintsWrittenBytes s a = (bytes words : List ℕ) → responseMeaning s bytes words ≡ writtenPrinted (λ n. inBytes (take n bytes)) a
-
-abbrev pub PrintsWrittenWords : Response → Answer ℕ → Type 0
-PrintsWrittenWords s a = (bytes words : List ℕ) → responseMeaning s bytes words ≡ writtenPrinted (λ n. inWords (take n words)) a
+askedBy letter b = found otherForm (drop 6 (take 12 letters)) letter b
 
 -- an order was answered a
 pub record Answers (β : Board) (o : Order) (a : Answered) : Type 0 where
@@ -49,3 +32,9 @@ pub record AnswersInBytes (β : Board) (o : Order) (a : Answered) (bytes : List 
 pub record AnswersBoth (β : Board) (o : Order) (a : Answered) (bytes words : List ℕ) : Type 0 where
   pub response : responseMeaning (a .response) bytes words ≡ printedAnswer β o
   pub board : a .board ≡ boardAfterOrder β o
+
+-- an order was served
+pub record ServesOrder (β : Board) (o : Order) (text : List ℕ) (s : ServedLine) (after : List ℕ) : Type 0 where
+  pub length : s .length ≡ length (textOf (printedAnswer β o))
+  pub printed : after ≡ inFront (textOf (printedAnswer β o)) text
+  pub board : s .board ≡ boardAfterOrder β o

@@ -1,57 +1,37 @@
 -- Replay script: what each order prints, and the board after it.
 use Prim.Native.Nat.{ℕ}
 use mathlib.Core.Path.{_≡_}
-use mathlib.Core.Bool.{cond}
 use mathlib.Core.List.{List, [], _∷_, _++_}
-use lib.Dec.{eqb}
 use lib.ListN.{length}
 use Rattle.refusals.specs.Tables.{Answer, given, refused, Rule, lowest}
 use Rattle.packets.specs.Packets.{packetBytes}
 use Rattle.blocks.specs.Blocks.{headerWords, staticRules, measurementRules, wrongId}
 use Rattle.ftu_list.specs.List.{listBody}
-use Rattle.commands.specs.declared.Command.{Command}
 use Rattle.command_reader.specs.Reading.{commandAnswer, usedOf}
 use Rattle.steps.specs.Steps.{noReply}
 use Rattle.run.specs.Run.{triggerNumber, triggerRules, afterAnswer}
-use Rattle.crate_pass.specs.declared.Outcome.{Outcome}
 use Rattle.board.specs.State.{freshBoard, withRun, powerUpAnswer}
 use Rattle.board.specs.Commands.{boardAnswer, boardAfter, afterClockStep}
 use Rattle.board.specs.SlowControl.{fetchRules, frameAt, replyAnswer, boardReplied, sentAnswer, judgedAt}
 use Rattle.board.specs.SentOut.{headerOf, dynamicBodyOf, listRules, listOf, failureRules, failureBodyOf}
 use Rattle.board.specs.declared.Board.{Board}
 use Rattle.script.specs.Script.{Line, passedOver, order, malformed}
-use Rattle.texts.specs.Texts.{Printed, question, numbers, done, served, inBytes, inWords, textOf, inFront}
+use Rattle.texts.specs.Texts.{Printed, question, numbers, inBytes, inWords, textOf, inFront}
+use Rattle.responses.specs.Responses.{refusalPrinted, commandPrinted, outcomePrinted, duePrinted}
+use Rattle.far_end.specs.FarEnd.{farEndPrinted}
 use Rattle.exchange.specs.Orders.{Order, powerUp, command, clockStep, trigger, reply, timeUp, outstanding, framesSent}
-use Rattle.exchange.specs.Orders.{static, ftuList, failure, dynamic, otherForm, orderOf}
+use Rattle.exchange.specs.Orders.{static, ftuList, failure, dynamic, farEnd, otherForm, orderOf}
 use Rattle.exchange.specs.declared.ServedLine.{ServedLine}
 
 -- ---- what is printed
-
--- "the number, and for 8 the place after it"
-abbrev pub refusalPrinted : ℕ → ℕ → Printed
-refusalPrinted n p = numbers (cond (eqb n 8) (n ∷ p ∷ []) (n ∷ []))
 
 abbrev pub powerUpPrinted : Answer Unit → Printed
 powerUpPrinted (given t) = numbers (0 ∷ [])
 powerUpPrinted (refused n p) = refusalPrinted n p
 
--- "Refused: the number and the words used, and for 8 the place"
-abbrev pub commandPrinted : ℕ → Answer Command → Printed
-commandPrinted used (given c) = done used c
-commandPrinted used (refused n p) = numbers (cond (eqb n 8) (n ∷ used ∷ p ∷ []) (n ∷ used ∷ []))
-
-abbrev pub outcomePrinted : Answer Outcome → Printed
-outcomePrinted (given o) = served o
-outcomePrinted (refused n p) = refusalPrinted n p
-
 abbrev pub sentPrinted : Answer ℕ → Printed
 sentPrinted (given n) = numbers (0 ∷ n ∷ [])
 sentPrinted (refused n p) = refusalPrinted n p
-
--- bytes or words that are due, printed in their way
-abbrev pub duePrinted : (List ℕ → Printed) → Answer (List ℕ) → Printed
-duePrinted print (given due) = print due
-duePrinted print (refused n p) = refusalPrinted n p
 
 -- a block with these rows of its own and this body: the words lent have room for every block, so 19 is left out
 abbrev pub blockPrinted : Board → List Rule → List ℕ → Printed
@@ -70,6 +50,7 @@ printedAnswer β static = blockPrinted β (staticRules (β .block)) (β .block)
 printedAnswer β ftuList = blockPrinted β (listRules β) (listBody (listOf β))
 printedAnswer β (failure n) = blockPrinted β (failureRules β n) (failureBodyOf β n)
 printedAnswer β (dynamic m) = blockPrinted β (measurementRules m) (dynamicBodyOf β m)
+printedAnswer β (farEnd o) = farEndPrinted o
 printedAnswer β otherForm = question
 
 -- ---- the board after it
@@ -92,6 +73,7 @@ boardAfterOrder β static = β
 boardAfterOrder β ftuList = β
 boardAfterOrder β (failure n) = β
 boardAfterOrder β (dynamic m) = β
+boardAfterOrder β (farEnd o) = β
 boardAfterOrder β otherForm = β
 
 -- ---- a line

@@ -2,29 +2,31 @@
 ghost use mathlib.Core.Path.{_≡_};
 ghost use Prim.Native.Nat.{_≤_, min};
 ghost use lib.ListN.{length};
-ghost use Rattle.refusals.specs.Refusals.{numberOf, placeOf};
-ghost use Rattle.refusals.specs.Writing.{writtenMeaning};
-ghost use Rattle.acceptance.specs.Acceptance.{answerMeaning};
-ghost use Rattle.crate_pass.specs.Crate.{replyMeaning};
-ghost use Rattle.script.specs.Script.{malformed};
+ghost use Rattle.script.specs.Script.{order, malformed};
 ghost use Rattle.script.specs.ByCharacter.{orderIn, lineIn};
 ghost use Rattle.texts.specs.Texts.{responseMeaning};
-ghost use Rattle.exchange.specs.Orders.{command, timeUp, outstanding, framesSent, static, ftuList, failure, dynamic, otherForm, orderOf};
-ghost use Rattle.exchange.specs.Orders.{areFlags, areFields, fieldsFrom, oneByte, noByte, anyWords, powerUpOrder, clockOrder, triggerOrder, replyFrom};
-ghost use Rattle.exchange.specs.Exchange.{refusalPrinted, commandPrinted, outcomePrinted, printedAnswer, ServesLine};
-ghost use Rattle.exchange.specs.CodeShape.{Prints, PrintsInBytes, PrintsInWords, PrintsWrittenBytes, PrintsWrittenWords};
-ghost use Rattle.exchange.specs.CodeShape.{askedBy, Answers, AnswersInBytes, AnswersBoth};
-use acceptance::CommandAnswer;
+ghost use Rattle.responses.specs.Responses.{Prints};
+ghost use Rattle.responses.specs.CodeShape.{PrintsInBytes, PrintsInWords};
+ghost use Rattle.script.specs.Forms.{oneByte, noByte, anyWords};
+ghost use Rattle.exchange.specs.Orders.{command, timeUp, outstanding, framesSent, static, ftuList, failure, dynamic, otherForm};
+ghost use Rattle.exchange.specs.Orders.{areFlags, areFields, fieldsFrom, powerUpOrder, clockOrder, triggerOrder, replyFrom};
+ghost use Rattle.exchange.specs.Exchange.{printedAnswer, ServesLine};
+ghost use Rattle.exchange.specs.CodeShape.{boardOrder, askedBy, Answers, AnswersInBytes, AnswersBoth, ServesOrder};
 use board::Board;
 use board::PowerUp;
 use board::power_up;
-use crate_pass::ReplyAnswer;
+use far_end::serve_block;
+use far_end::serve_command;
+use far_end::serve_packet;
 use four_crates::FramesSent;
 use numbers::number32;
 use numbers::number64;
 use packets::Fields;
-use refusals::Refusal;
-use refusals::Written;
+use responses::bytes_response;
+use responses::command_response;
+use responses::outcome_response;
+use responses::refusal_response;
+use responses::words_response;
 use script::Form;
 use script::Reading;
 use texts::Response;
@@ -32,7 +34,7 @@ use texts::write_response;
 use words::words_from_bytes;
 
 // What an order gets, with the board after it.
-pub struct Answered {
+struct Answered {
     pub response: Response,
     pub board: Board,
 }
@@ -41,59 +43,6 @@ pub struct Answered {
 pub struct ServedLine {
     pub length: usize,
     pub board: Board,
-}
-
-// A refusal's number, and for 8 the place.
-fn refusal_response(refusal: Refusal) -> Response
-    ensures { λ r. ⌜ Prints r (refusalPrinted (numberOf refusal) (placeOf refusal)) ⌝ }
-{
-    match refusal {
-        Refusal::AboveBound(place) => Response::Two(8, place),
-        _ => Response::One(refusal.number() as usize),
-    }
-}
-
-// What is printed for a command.
-fn command_response(answer: CommandAnswer, used: usize) -> Response
-    ensures { λ r. ⌜ Prints r (commandPrinted used (answerMeaning answer)) ⌝ }
-{
-    match answer {
-        CommandAnswer::Obeyed(c) => Response::Done(used, c),
-        CommandAnswer::Refused(r) => match r {
-            Refusal::AboveBound(place) => Response::Three(8, used, place),
-            _ => Response::Two(r.number() as usize, used),
-        },
-    }
-}
-
-// What is printed for a reply or a time-up.
-fn outcome_response(answer: ReplyAnswer) -> Response
-    ensures { λ r. ⌜ Prints r (outcomePrinted (replyMeaning answer)) ⌝ }
-{
-    match answer {
-        ReplyAnswer::Served(o) => Response::Served(o),
-        ReplyAnswer::Refused(r) => refusal_response(r),
-    }
-}
-
-// Bytes that were written, or why not.
-fn bytes_response(written: Written) -> Response
-    ensures { λ r. ⌜ PrintsWrittenBytes r (writtenMeaning written) ⌝ }
-{
-    match written {
-        Written::Length(n) => Response::Bytes(n),
-        Written::Refused(r) => refusal_response(r),
-    }
-}
-
-// Words that were written, or why not.
-fn words_response(written: Written) -> Response
-    ensures { λ r. ⌜ PrintsWrittenWords r (writtenMeaning written) ⌝ }
-{
-    match written {
-        Written::Length(n) => Response::Words(n),
-        Written::Refused(r) => refusal_response(r),
-    }
 }
 
 // ---- orders that may change the board
@@ -135,7 +84,7 @@ fn power_up_order(board: Board, bytes: &[u8]) -> Answered
 // C: the first command of the words is obeyed.
 fn command_order(board: Board, bytes: &[u8]) -> Answered
     requires { ⌜ length (now bytes) ≤ 2048 ⌝ }
-    ensures { λ r. ⌜ Answers board (anyWords command (now (bytes .entry))) r ⌝ }
+    ensures { λ r. ⌜ Answers board (anyWords otherForm command (now (bytes .entry))) r ⌝ }
 {
     if bytes.len() % 2 != 0 {
         return other_form(board);
@@ -244,7 +193,7 @@ fn reply_order(board: Board, bytes: &[u8]) -> Answered
 
 // T: a time-up on a crate.
 fn time_up_order(board: Board, bytes: &[u8]) -> Answered
-    ensures { λ r. ⌜ Answers board (oneByte timeUp (now (bytes .entry))) r ⌝ }
+    ensures { λ r. ⌜ Answers board (oneByte otherForm timeUp (now (bytes .entry))) r ⌝ }
 {
     if bytes.len() != 1 {
         return other_form(board);
@@ -262,7 +211,7 @@ fn time_up_order(board: Board, bytes: &[u8]) -> Answered
 
 // F: the outstanding frame of a crate.
 fn frame_order(board: Board, bytes: &[u8], out: &mut [u8; 28]) -> Response
-    ensures { λ r. ⌜ PrintsInBytes r (now (out .exit)) (printedAnswer board (oneByte outstanding (now (bytes .entry)))) ⌝ }
+    ensures { λ r. ⌜ PrintsInBytes r (now (out .exit)) (printedAnswer board (oneByte otherForm outstanding (now (bytes .entry)))) ⌝ }
 {
     if bytes.len() != 1 {
         return Response::Question;
@@ -272,7 +221,7 @@ fn frame_order(board: Board, bytes: &[u8], out: &mut [u8; 28]) -> Response
 
 // N: the number of frames sent on a crate.
 fn frames_sent_order(board: Board, bytes: &[u8]) -> Response
-    ensures { λ r. ⌜ Prints r (printedAnswer board (oneByte framesSent (now (bytes .entry)))) ⌝ }
+    ensures { λ r. ⌜ Prints r (printedAnswer board (oneByte otherForm framesSent (now (bytes .entry)))) ⌝ }
 {
     if bytes.len() != 1 {
         return Response::Question;
@@ -285,7 +234,7 @@ fn frames_sent_order(board: Board, bytes: &[u8]) -> Response
 
 // S: the static block.
 fn static_order(board: Board, bytes: &[u8], out: &mut [u16; 498]) -> Response
-    ensures { λ r. ⌜ PrintsInWords r (now (out .exit)) (printedAnswer board (noByte static (now (bytes .entry)))) ⌝ }
+    ensures { λ r. ⌜ PrintsInWords r (now (out .exit)) (printedAnswer board (noByte otherForm static (now (bytes .entry)))) ⌝ }
 {
     if bytes.len() != 0 {
         return Response::Question;
@@ -295,7 +244,7 @@ fn static_order(board: Board, bytes: &[u8], out: &mut [u16; 498]) -> Response
 
 // L: the FTU list.
 fn list_order(board: Board, bytes: &[u8], out: &mut [u16; 498]) -> Response
-    ensures { λ r. ⌜ PrintsInWords r (now (out .exit)) (printedAnswer board (noByte ftuList (now (bytes .entry)))) ⌝ }
+    ensures { λ r. ⌜ PrintsInWords r (now (out .exit)) (printedAnswer board (noByte otherForm ftuList (now (bytes .entry)))) ⌝ }
 {
     if bytes.len() != 0 {
         return Response::Question;
@@ -305,7 +254,7 @@ fn list_order(board: Board, bytes: &[u8], out: &mut [u16; 498]) -> Response
 
 // M: the failure message of an ordinal.
 fn failure_order(board: Board, bytes: &[u8], out: &mut [u16; 498]) -> Response
-    ensures { λ r. ⌜ PrintsInWords r (now (out .exit)) (printedAnswer board (oneByte failure (now (bytes .entry)))) ⌝ }
+    ensures { λ r. ⌜ PrintsInWords r (now (out .exit)) (printedAnswer board (oneByte otherForm failure (now (bytes .entry)))) ⌝ }
 {
     if bytes.len() != 1 {
         return Response::Question;
@@ -316,7 +265,7 @@ fn failure_order(board: Board, bytes: &[u8], out: &mut [u16; 498]) -> Response
 // D: the dynamic block with these measurements.
 fn dynamic_order(board: Board, bytes: &[u8], out: &mut [u16; 498]) -> Response
     requires { ⌜ length (now bytes) ≤ 2048 ⌝ }
-    ensures { λ r. ⌜ PrintsInWords r (now (out .exit)) (printedAnswer board (anyWords dynamic (now (bytes .entry)))) ⌝ }
+    ensures { λ r. ⌜ PrintsInWords r (now (out .exit)) (printedAnswer board (anyWords otherForm dynamic (now (bytes .entry)))) ⌝ }
 {
     if bytes.len() % 2 != 0 {
         return Response::Question;
@@ -349,7 +298,7 @@ fn ask(
     }
 }
 
-// An order, by its letter.
+// An order on the board, by its letter.
 fn serve_order(
     board: Board,
     letter: u8,
@@ -358,7 +307,7 @@ fn serve_order(
     words: &mut [u16; 498],
 ) -> Answered
     requires { ⌜ length (now bytes) ≤ 2048 ⌝ }
-    ensures { λ r. ⌜ AnswersBoth board (orderOf letter (now (bytes .entry))) r (now (out .exit)) (now (words .exit)) ⌝ }
+    ensures { λ r. ⌜ AnswersBoth board (boardOrder letter (now (bytes .entry))) r (now (out .exit)) (now (words .exit)) ⌝ }
 {
     match letter {
         b'P' => power_up_order(board, bytes),
@@ -375,7 +324,7 @@ fn serve_order(
 }
 
 // A line in another form.
-fn question(board: Board, text: &mut [u8; 2048]) -> ServedLine
+fn question(board: Board, text: &mut [u8; 2560]) -> ServedLine
     ensures { λ r. ⌜ ServesLine board malformed (now (text .entry)) r (now (text .exit)) ⌝ }
 {
     ServedLine {
@@ -391,8 +340,46 @@ fn lesser(a: usize, b: usize) -> usize
     if a < b { a } else { b }
 }
 
+// An order on the board, or a letter that is none.
+fn serve_on_board(board: Board, letter: u8, bytes: &[u8], text: &mut [u8; 2560]) -> ServedLine
+    requires { ⌜ length (now bytes) ≤ 2048 ⌝ }
+    ensures { λ r. ⌜ ServesOrder board (boardOrder letter (now (bytes .entry))) (now (text .entry)) r (now (text .exit)) ⌝ }
+{
+    let mut out = [0u8; 28];
+    let mut words = [0u16; 498];
+    let answered = serve_order(board, letter, bytes, &mut out, &mut words);
+    let response = answered.response;
+    let next = answered.board;
+    ServedLine {
+        length: write_response(response, &out, &words, text),
+        board: next,
+    }
+}
+
+// An order, by its letter: the far end's three do not reach the board.
+fn serve_letter(board: Board, letter: u8, bytes: &[u8], text: &mut [u8; 2560]) -> ServedLine
+    requires { ⌜ length (now bytes) ≤ 2048 ⌝ }
+    ensures { λ r. ⌜ ServesLine board (order letter (now (bytes .entry))) (now (text .entry)) r (now (text .exit)) ⌝ }
+{
+    match letter {
+        b'W' => ServedLine {
+            length: serve_command(bytes, text),
+            board,
+        },
+        b'X' => ServedLine {
+            length: serve_packet(bytes, text),
+            board,
+        },
+        b'Y' => ServedLine {
+            length: serve_block(bytes, text),
+            board,
+        },
+        _ => serve_on_board(board, letter, bytes, text),
+    }
+}
+
 // An order that is read.
-fn serve_read(board: Board, reading: Reading, bytes: &[u8], text: &mut [u8; 2048]) -> ServedLine
+fn serve_read(board: Board, reading: Reading, bytes: &[u8], text: &mut [u8; 2560]) -> ServedLine
     ensures { λ r. ⌜ ServesLine board (orderIn reading (now (bytes .entry))) (now (text .entry)) r (now (text .exit)) ⌝ }
 {
     let digits = reading.digits;
@@ -403,19 +390,11 @@ fn serve_read(board: Board, reading: Reading, bytes: &[u8], text: &mut [u8; 2048
         return question(board, text);
     }
     let count = lesser(digits / 2, bytes.len());
-    let mut out = [0u8; 28];
-    let mut words = [0u16; 498];
-    let answered = serve_order(board, reading.letter, &bytes[..count], &mut out, &mut words);
-    let response = answered.response;
-    let next = answered.board;
-    ServedLine {
-        length: write_response(response, &out, &words, text),
-        board: next,
-    }
+    serve_letter(board, reading.letter, &bytes[..count], text)
 }
 
 // A line, once it is read: what is printed goes to the front of the text.
-pub fn serve_line(board: Board, reading: Reading, bytes: &[u8], text: &mut [u8; 2048]) -> ServedLine
+pub fn serve_line(board: Board, reading: Reading, bytes: &[u8], text: &mut [u8; 2560]) -> ServedLine
     ensures { λ r. ⌜ ServesLine board (lineIn reading (now (bytes .entry))) (now (text .entry)) r (now (text .exit)) ⌝ }
 {
     let form = reading.form;

@@ -7,7 +7,7 @@ use mathlib.Core.Path.{_≡_, ap, _∙_}
 use mathlib.Core.List.{List}
 use lib.ListN.{take, drop}
 use Rattle.refusals.specs.Tables.{isGiven}
-use Rattle.packets.specs.Packets.{packetAnswer}
+use Rattle.packet_reader.specs.Reading.{packetAnswer}
 use Rattle.command_series.proofs.Parts.{past, one-left}
 use Rattle.exports.specs.Exports.{goodFrom}
 

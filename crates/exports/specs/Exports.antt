@@ -8,12 +8,13 @@ use lib.ListN.{length, take, drop}
 use Rattle.board.specs.Commands.{afterClockStep}
 use Rattle.refusals.specs.Tables.{Answer, given, refused, lowest, answerNumber, isGiven}
 use Rattle.refusals.specs.Writing.{writingBy, outputAfter}
-use Rattle.packets.specs.Packets.{packetBytes, packetAnswer}
+use Rattle.packets.specs.Packets.{packetBytes}
 use Rattle.packets.specs.declared.Fields.{Fields}
 use Rattle.bounds.specs.Bounds.{boundOf, lentRules}
 use Rattle.blocks.specs.Blocks.{headerWords, blockRules}
 use Rattle.blocks.specs.declared.Header.{Header}
 use Rattle.block_reader.specs.declared.Kind.the-variants.{Static}
+use Rattle.packet_reader.specs.Reading.{packetAnswer}
 use Rattle.round_trips.specs.Blocks.{ReadsBack}
 use Rattle.command_reader.specs.Reading.{commandAnswer}
 use Rattle.run.specs.Run.{clockedRun, triggerNumber, triggerRules, afterTrigger}

@@ -1,21 +1,20 @@
 -- Laws of packets, one for each way that a function returns.
 -- Assumes nothing.
-use Prim.Native.Nat.{ℕ, suc, _/_, _%_, _^_, _<_, _≤_}
+use Prim.Native.Nat.{ℕ, _/_, _%_, _^_, _<_, _≤_}
 use mathlib.Core.Path.{_≡_, refl, sym, ap, ap₂, _∙_}
 use mathlib.Core.Bool.{Bool, true, false, not, _&&_}
 use mathlib.Core.List.{List, [], _∷_, _++_}
 use native.Mathlib.Omega.{arith}
 use lib.Dec.{leb}
-use lib.ListN.{length, take, getD, set}
-use lib.Seq.{sets-eq, take-suc}
-use borrow.Author.Tests.{le-leb, lt-leb, leb-true, not-false, eq-eqb, ne-eqb}
+use lib.ListN.{length, getD, set}
+use lib.Seq.{sets-eq}
+use borrow.Author.Tests.{le-leb, lt-leb, leb-true, not-false}
 use Rattle.crc.specs.Crc.{crc}
-use Rattle.refusals.specs.Tables.{given, refused}
 use Rattle.refusals.specs.declared.Refusal.the-variants.{TriggerFieldOutOfRange, OutputTooShort}
 use Rattle.refusals.specs.declared.Written.{Written}
 use Rattle.refusals.specs.declared.Written.the-variants.{Length, Refused}
 use Rattle.refusals.proofs.Writing.{wrote, wrote-short, wrote-refused, refused≢length}
-use Rattle.packets.specs.Packets.{type1, type2, firstSix, packetBytes, inRange, writeRules, WrotePacket, packetIn, readRules, packetAnswer}
+use Rattle.packets.specs.Packets.{type1, type2, firstSix, packetBytes, inRange, writeRules, WrotePacket}
 use Rattle.packets.specs.declared.Fields.{Fields}
 
 -- ---- the ranges
@@ -79,34 +78,3 @@ module _ (x : ℕ) (f : Fields) (out : List ℕ) (r : Bool) (e : r ≡ inRange f
           wrote = wrote _ _ _ (rw e at h, tt) 7 refl _ s (rw eb (sets-eq (packetBytes x f) out 0 s));
           fits = λ m z. fits;
         }
-
--- ---- the reader
-
-module _ (b : List ℕ) where
-  pub read-13 : (length b ≡ 7 → ⊥) → refused 13 0 ≡ packetAnswer b
-  unfolding packetAnswer readRules
-  read-13 n = simp (ne-eqb _ _ n)
-
-  module _ (l : length b ≡ 7) (k : ℕ) (ek : k ≡ crc (getD b 0 0 ∷ getD b 1 0 ∷ getD b 2 0 ∷ getD b 3 0 ∷ getD b 4 0 ∷ getD b 5 0 ∷ [])) where
-    -- the CRC that was computed is that of bytes 0 to 5
-    computed : crc (take 6 b) ≡ k
-    computed =
-        let next : (i : ℕ) → i < 7 → take (suc i) b ≡ take i b ++ (getD b i 0 ∷ []) = λ i h. take-suc b i 0 (omega arith) in
-        rw (next 5 (omega arith), next 4 (omega arith), next 3 (omega arith), next 2 (omega arith), next 1 (omega arith), next 0 (omega arith)) (sym ek)
-
-    pub read-14 : (k ≡ getD b 6 0 → ⊥) → refused 14 0 ≡ packetAnswer b
-    unfolding packetAnswer readRules
-    read-14 n = rw computed (simp (eq-eqb _ _ l, ne-eqb _ _ n))
-
-    module _ (q : k ≡ getD b 6 0) (f : Fields) (ef : f ≡ packetIn b .fields) (r : Bool) (er : r ≡ inRange f) where
-      pub read-15 : not r ≡ true → refused 15 0 ≡ packetAnswer b
-      unfolding packetAnswer readRules
-      read-15 h =
-          let t : not (inRange (packetIn b .fields)) ≡ true = rw (er, ef) at h in
-          simp (eq-eqb _ _ l, eq-eqb _ _ (computed ∙ q), t)
-
-      pub read-packet : (x : ℕ) → x ≡ packetIn b .number → not r ≡ false → given (record { number = x; fields = f }) ≡ packetAnswer b
-      unfolding packetAnswer readRules
-      read-packet x ex h =
-          let t : not (inRange (packetIn b .fields)) ≡ false = rw (er, ef) at h in
-          (λ i. given (record { number = ex i; fields = ef i })) ∙ simp (eq-eqb _ _ l, eq-eqb _ _ (computed ∙ q), t)

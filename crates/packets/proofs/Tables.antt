@@ -1,23 +1,13 @@
--- A packet is read, and written, exactly where no row of the table applies, and refused with the lowest that does.
+-- A packet is written exactly where no row of the table applies, and refused with the lowest that does.
 -- Assumes nothing.
 use Prim.Native.Nat.{ℕ}
 use mathlib.Core.List.{List}
-use lib.Dec.{T}
 use lib.ListN.{length}
-use Rattle.refusals.specs.Tables.{rising}
 use Rattle.refusals.specs.Writing.{writingRules, writing}
-use Rattle.refusals.proofs.Tables.{Exactly, exactly}
+use Rattle.refusals.proofs.Tables.{Exactly}
 use Rattle.refusals.proofs.Writing.{writing-exactly}
-use Rattle.packets.specs.Packets.{packetBytes, writeRules, packetIn, readRules, packetAnswer}
+use Rattle.packets.specs.Packets.{packetBytes, writeRules}
 use Rattle.packets.specs.declared.Fields.{Fields}
-
-pub read-rises : (b : List ℕ) → T (rising (readRules b))
-unfolding readRules
-read-rises b = tt
-
-pub read-exactly : (b : List ℕ) → Exactly (readRules b) (packetIn b) (packetAnswer b)
-unfolding packetAnswer
-read-exactly b = exactly (readRules b) (packetIn b) (read-rises b)
 
 -- the writer's table, with 19 after its own row
 pub write-exactly : (number : ℕ) (f : Fields) (out : List ℕ)

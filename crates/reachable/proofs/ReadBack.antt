@@ -14,7 +14,7 @@ use Rattle.refusals.specs.declared.Written.{Written}
 use Rattle.refusals.specs.declared.Written.the-variants.{Length}
 use Rattle.refusals.proofs.Tables.{Clear}
 use Rattle.refusals.proofs.Writing.{wrote-length, wrote-clear}
-use Rattle.packets.specs.Packets.{firstSix, packetBytes, packetAnswer}
+use Rattle.packets.specs.Packets.{firstSix, packetBytes}
 use Rattle.packets.specs.declared.Fields.{Fields}
 use Rattle.numbers.specs.Numbers.{number}
 use Rattle.bounds.specs.Bounds.{boundOf}
@@ -26,6 +26,7 @@ use Rattle.ftu_list.specs.List.{listBody}
 use Rattle.block_reader.specs.Reading.{bodyOf}
 use Rattle.block_reader.specs.declared.Kind.{Kind}
 use Rattle.block_reader.specs.declared.Kind.the-variants.{Static, Dynamic, FtuList, Failure}
+use Rattle.packet_reader.specs.Reading.{packetAnswer}
 use Rattle.round_trips.specs.Blocks.{asSent, ReadsBack, DynamicBack}
 use Rattle.round_trips.proofs.Blocks.{static-back, dynamic-back, list-back, failure-back, sent-whole}
 use Rattle.round_trips.proofs.Packets as packets

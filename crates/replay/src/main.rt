@@ -15,15 +15,15 @@ struct ReplayState {
 }
 
 // Prints the front of a text.
-fn print(text: [u8; 2048], length: usize) {
-    if length <= 2048 {
+fn print(text: [u8; 2560], length: usize) {
+    if length <= 2560 {
         io::write_all(STDOUT_FILENO, &text[..length]);
     }
 }
 
 // Serves a line that is read, prints what it gets, and gives the board after it.
 fn serve(board: Board, reading: Reading, bytes: &[u8]) -> Board {
-    let mut text = [0u8; 2048];
+    let mut text = [0u8; 2560];
     let served = serve_line(board, reading, bytes, &mut text);
     let next = served.board;
     print(text, served.length);

@@ -16,11 +16,11 @@ use Rattle.refusals.specs.declared.Written.the-variants.{Length}
 use Rattle.refusals.proofs.Writing.{wrote-front, wrote-clear}
 use Rattle.numbers.proofs.Listed.{spread, listed}
 use Rattle.packets.specs.Packets.{bitOf, type1, type2, firstSix, packetBytes, inRange, writeRules, WrotePacket}
-use Rattle.packets.specs.Packets.{isOdd, numberIn, fieldsIn, packetIn, readRules, packetAnswer}
 use Rattle.packets.specs.declared.Fields.{Fields}
 use Rattle.packets.specs.declared.Packet.{Packet}
 use Rattle.packets.proofs.Laws.{within}
-use Rattle.packets.proofs.Tables.{read-exactly}
+use Rattle.packet_reader.specs.Reading.{isOdd, numberIn, fieldsIn, packetIn, readRules, packetAnswer}
+use Rattle.packet_reader.proofs.Tables.{read-exactly}
 
 -- ---- written, then read
 

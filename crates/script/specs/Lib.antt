@@ -1,3 +1,4 @@
 -- What the contracts cite.
 pub mod Script
 pub mod ByCharacter
+pub mod Forms

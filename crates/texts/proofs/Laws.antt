@@ -1,15 +1,18 @@
--- Characters stored in a text one after another.
+-- Characters stored in a text one after another; the kit's decimal digits.
 -- Assumes nothing.
-use Prim.Native.Nat.{ℕ, zero, suc, _+_, _-_, _≤_, _<_, _/_, _%_, min}
+use Prim.Native.Nat.{ℕ, zero, suc, _+_, _-_, _*_, _≤_, _<_, _/_, _%_, _^_, min}
 use mathlib.Core.Path.{_≡_, refl, sym, ap, ap₂, _∙_}
-use mathlib.Core.List.{List, [], _∷_, _++_, append-nil, append-assoc}
+use mathlib.Core.List.{List, [], _∷_, _++_, map, append-nil, append-assoc}
+use native.Mathlib.Nat.{one-le-pow, pow-le-pow-right, pow-suc, le-of-suc-le-suc, lt-of-not-le}
 use native.Mathlib.Omega.{arith}
 use native.Mathlib.Numerals.{add-one}
 use borrow.Author.Tests.{lt-ltb, le-ltb}
 use lib.ListN.{length, take, drop, set, getD, length-append}
 use lib.Seq.{sets, sets-eq, length-sets, drop-cons, take-suc, take-nil}
-use Rattle.texts.specs.Texts.{inFront, decimalIn, joined}
-use Rattle.texts.specs.CodeShape.{Appended}
+use Rattle.texts.specs.Characters.{ascii}
+use Rattle.texts.specs.Texts.{inFront, decimal, decimalIn, spaced, joined}
+use Rattle.texts.specs.CodeShape.{Appended, spaceBefore}
+use Rattle.io.specs.Digits.{digits, Fewest}
 
 -- ---- one after the other
 
@@ -70,20 +73,57 @@ in-front {d} {line} {e} {m} {next} p h =
 
 -- ---- decimal numbers
 
-pub none : (d : List ℕ) (at n m : ℕ) → m ≡ 0 → Appended d at (decimalIn m n) m at d
-none d at n m h = rw h (record { place = omega arith; room = omega arith; text = refl })
+no-more : (n k : ℕ) → n < 2 ^ 64 → Fewest 10 1 n k → 20 < k → ⊥
+no-more n k h f over =
+    let p : 10 ^ (k - 1) ≤ n = f .2 (omega arith) in
+    let l : 20 ≤ k - 1 = omega arith in
+    let q : 10 ^ 20 ≤ 10 ^ (k - 1) = pow-le-pow-right (omega arith) l in
+    omega arith
 
-pub few : (d : List ℕ) (at n m : ℕ) → n < 10 → 1 ≤ m → Appended d at (decimalIn m n) m (at + 1) (set d at (48 + n))
-few d at n zero h k = absurd (let z : ⊥ = omega arith in z)
-few d at n (suc m) h k = rw (lt-ltb n 10 h) (record { place = refl; room = omega arith; text = refl })
+-- 20 digits at most
+pub twenty : (n k : ℕ) → n < 2 ^ 64 → Fewest 10 1 n k → k ≤ 20
+twenty n k h f = le-of-suc-le-suc (lt-of-not-le (no-more n k h f))
 
-pub more : (d e : List ℕ) (at n m next : ℕ) → 10 ≤ n → 1 ≤ m → Appended d at (decimalIn (m - 1) (n / 10)) (m - 1) next e
-    → Appended d at (decimalIn m n) m (next + 1) (set e next (48 + n % 10))
-more d e at n zero next h k p = absurd (let z : ⊥ = omega arith in z)
-more d e at n (suc m) next h k p =
-    let e₁ : suc m - 1 ≡ m = omega arith in
-    let q = both (rw e₁ at p) (one e next (48 + n % 10)) in
-    rw (le-ltb n 10 h) (record { place = q .place; room = let r = q .room in omega arith; text = q .text })
+-- the fewest digits of a number, as the kit has them, are its decimal digits
+pub decimal-digits : (m k n : ℕ) → k ≤ m → Fewest 10 1 n k → digits 10 k n ≡ decimalIn m n
+decimal-digits m zero n h f = absurd (let z : ⊥ = omega (arith, f .0) in z)
+decimal-digits zero (suc k) n h f = absurd (let z : ⊥ = omega arith in z)
+decimal-digits (suc m) (suc zero) n h f =
+    let s : n < 10 = f .1 in
+    let e : n % 10 ≡ n = omega arith in
+    rw (e, lt-ltb n 10 s)
+decimal-digits (suc m) (suc (suc k)) n h f =
+    let p : 10 ^ suc (suc k) ≡ 10 ^ suc k * 10 = pow-suc 10 (suc k) in
+    let q : 10 ^ suc k ≡ 10 ^ k * 10 = pow-suc 10 k in
+    let o : 1 ≤ 10 ^ k = one-le-pow k 10 (omega arith) in
+    let e : (j : ℕ) → suc j - 1 ≡ j = λ j. omega arith in
+    let l : 10 ^ suc k ≤ n = rw (e (suc k)) at (f .2 (omega arith)) in
+    let u : n < 10 ^ suc (suc k) = f .1 in
+    let t : n / 10 < 10 ^ suc k = omega arith in
+    let g : 1 < suc k → 10 ^ (suc k - 1) ≤ n / 10 = λ _. rw (e k) (omega arith) in
+    let r : n % 10 < 10 = omega arith in
+    rw (le-ltb n 10 (omega arith), lt-ltb (n % 10) 10 r)
+    (ap (λ (l : List ℕ). l ++ ((48 + n % 10) ∷ [])) (decimal-digits m (suc k) (n / 10) (omega arith) (omega arith, t, g)))
+
+-- ---- numbers in decimal, one space between
+
+spaced-suc : (xs : List ℕ) (i : ℕ) → i < length xs
+    → spaced (map decimal (take (suc i) xs)) ≡ spaced (map decimal (take i xs)) ++ (spaceBefore i ++ decimal (getD xs i 0))
+spaced-suc [] i h = absurd (let z : ⊥ = omega arith in z)
+spaced-suc (x ∷ xs) zero h = refl
+spaced-suc (x ∷ []) (suc i) h = absurd (let z : ⊥ = omega arith in z)
+spaced-suc (x ∷ y ∷ xs) (suc zero) h = append-assoc (decimal x) (ascii " ") (decimal y)
+spaced-suc (x ∷ y ∷ xs) (suc (suc i)) h =
+    let front = decimal x ++ ascii " " in
+    let last = ascii " " ++ decimal (getD xs i 0) in
+    ap (λ (l : List ℕ). front ++ l) (spaced-suc (y ∷ xs) (suc i) (omega arith)) ∙ sym (append-assoc front (spaced (map decimal (take (suc i) (y ∷ xs)))) last)
+
+-- one turn of the loop
+pub spaced-more : {d e f g : List ℕ} {m next middle after : ℕ} (xs : List ℕ) (i : ℕ) → i < length xs
+    → Appended d 0 (spaced (map decimal (take i xs))) m next e
+    → Appended e next (spaceBefore i) 1 middle f → Appended f middle (decimal (getD xs i 0)) 20 after g
+    → Appended d 0 (spaced (map decimal (take (i + 1) xs))) (m + 21) after g
+spaced-more xs i h p q r = within (rw add-one (spaced-suc xs i h)) (omega arith) (both p (both q r))
 
 -- ---- bytes and words in hexadecimal, one after another
 

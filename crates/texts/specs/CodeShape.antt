@@ -1,12 +1,18 @@
 -- What only the code's shape needs: characters stored in the lent text, one part after another.
-use Prim.Native.Nat.{ℕ, _+_, _≤_}
+use Prim.Native.Nat.{ℕ, zero, suc, _+_, _≤_}
 use mathlib.Core.Path.{_≡_}
-use mathlib.Core.List.{List}
+use mathlib.Core.List.{List, []}
 use lib.ListN.{length}
 use lib.Seq.{sets}
+use Rattle.texts.specs.Characters.{ascii}
 
 -- characters were stored from a place on, at most so many; the place after them
 pub record Appended (before : List ℕ) (at : ℕ) (characters : List ℕ) (most : ℕ) (next : ℕ) (after : List ℕ) : Type 0 where
   pub place : next ≡ at + length characters
   pub room : next ≤ at + most
   pub text : after ≡ sets before at characters
+
+-- what stands in front of field i
+abbrev pub spaceBefore : ℕ → List ℕ
+spaceBefore zero = []
+spaceBefore (suc i) = ascii " "

@@ -11,9 +11,13 @@ use Rattle.commands.specs.declared.Command.{Command}
 use Rattle.commands.specs.declared.Command.the-variants.{Read, Write, Start, Stop, Ping, CrateReset}
 use Rattle.crate_pass.specs.declared.Outcome.{Outcome}
 use Rattle.crate_pass.specs.declared.Outcome.the-variants.{Good, Again, BoardFailed}
+use Rattle.numbers.specs.Numbers.{digits}
+use Rattle.packets.specs.declared.Packet as packet
+use Rattle.packets.specs.Packets.{bitOf}
+use Rattle.blocks.specs.declared.Header.{Header}
 use Rattle.texts.specs.Characters.{ascii}
 use Rattle.texts.specs.declared.Response.{Response}
-use Rattle.texts.specs.declared.Response.the-variants.{Question, One, Two, Three, Done, Served, Bytes, Words}
+use Rattle.texts.specs.declared.Response.the-variants.{Question, One, Two, Three, Done, Served, Bytes, Words, Packet, Block}
 
 -- ---- numbers, as characters
 
@@ -76,8 +80,10 @@ pub data Printed : Type 0 where
   served : Outcome → Printed
   inBytes : List ℕ → Printed
   inWords : List ℕ → Printed
+  block : Header → List ℕ → Printed
 
--- its fields
+-- its fields; of a block, "`0`, the board ID (16 hexadecimal digits), the firmware ID (4), the trigger counter and the timestamp
+-- (decimal), and the body's words" (`Y`)
 abbrev pub fieldsOf : Printed → List (List ℕ)
 fieldsOf question = ascii "?" ∷ []
 fieldsOf (numbers ns) = map decimal ns
@@ -85,6 +91,14 @@ fieldsOf (done used c) = ascii "0" ∷ decimal used ∷ commandText c ∷ []
 fieldsOf (served o) = ascii "0" ∷ outcomeText o ∷ []
 fieldsOf (inBytes bs) = ascii "0" ∷ joined hexByte bs ∷ []
 fieldsOf (inWords ws) = ascii "0" ∷ joined hexWord ws ∷ []
+fieldsOf (block h body) =
+    ascii "0"
+    ∷ joined hexWord (digits 65536 4 (h .«board_id»))
+    ∷ hexWord (h .«firmware_id»)
+    ∷ decimal (h .«trigger_counter»)
+    ∷ decimal (h .timestamp)
+    ∷ joined hexWord body
+    ∷ []
 
 -- "one space between fields, none at the end"
 abbrev pub spaced : List (List ℕ) → List ℕ
@@ -96,6 +110,20 @@ spaced (f ∷ g ∷ fs) = f ++ ascii " " ++ spaced (g ∷ fs)
 unfoldable pub textOf : Printed → List ℕ
 textOf r = spaced (fieldsOf r) ++ ascii "\n"
 
+-- Replay script, `X`: "`0`, the number, n, external 1, external 2, TIM source, pulser setting, pedestal, LP2, LP1, in decimal"
+abbrev pub packetNumbers : packet.Packet → List ℕ
+packetNumbers p =
+    let f = p .fields in
+    0 ∷ p .number ∷ f .n
+    ∷ bitOf (f .external1)
+    ∷ bitOf (f .external2)
+    ∷ bitOf (f .«tim_source»)
+    ∷ f .«pulser_setting»
+    ∷ bitOf (f .pedestal)
+    ∷ bitOf (f .lp2)
+    ∷ bitOf (f .lp1)
+    ∷ []
+
 -- what is printed, with the arrays beside it
 abbrev pub responseMeaning : Response → List ℕ → List ℕ → Printed
 responseMeaning Question bytes words = question
@@ -106,6 +134,8 @@ responseMeaning (Done used c) bytes words = done used c
 responseMeaning (Served o) bytes words = served o
 responseMeaning (Bytes n) bytes words = inBytes (take n bytes)
 responseMeaning (Words n) bytes words = inWords (take n words)
+responseMeaning (Packet p) bytes words = numbers (packetNumbers p)
+responseMeaning (Block h n) bytes words = block h (take n words)
 
 -- ---- in the lent text
 

@@ -1,15 +1,19 @@
 // The line that is printed for an answer.
 ghost use mathlib.Core.Path.{_≡_};
-ghost use mathlib.Core.List.{[], _∷_};
-ghost use Prim.Native.Nat.{_+_, _≤_, _<_, min};
+ghost use mathlib.Core.List.{map};
+ghost use Prim.Native.Nat.{_+_, _*_, _≤_, _<_, min};
 ghost use lib.ListN.{length, take};
+ghost use Rattle.packets.specs.Packets.{bitOf};
 ghost use Rattle.texts.specs.Characters.{ascii};
-ghost use Rattle.texts.specs.Texts.{hexDigit, hexByte, hexWord, decimal, decimalIn, commandText, doneText};
-ghost use Rattle.texts.specs.Texts.{done, served, inBytes, inWords, spaced, fieldsOf, textOf, responseMeaning, inFront};
-ghost use Rattle.texts.specs.CodeShape.{Appended};
+ghost use Rattle.texts.specs.Texts.{hexDigit, hexByte, hexWord, decimal, commandText, doneText};
+ghost use Rattle.texts.specs.Texts.{done, served, inBytes, block, packetNumbers, joined, spaced, fieldsOf, textOf, responseMeaning, inFront};
+ghost use Rattle.texts.specs.CodeShape.{Appended, spaceBefore};
+use blocks::Header;
 use commands::BlockKind;
 use commands::Command;
 use crate_pass::Outcome;
+use numbers::words64;
+use packets::Packet;
 
 // What is printed. The bytes and words stand in arrays beside it.
 pub enum Response {
@@ -27,11 +31,15 @@ pub enum Response {
     Bytes(usize),
     // 0, and this many words.
     Words(usize),
+    // A packet that was read.
+    Packet(Packet),
+    // A block that was read: its header, and how many of the words are its body.
+    Block(Header, usize),
 }
 
 // Characters at a place of the text; the place after them.
-fn append(text: &mut [u8; 2048], at: usize, characters: &[u8]) -> usize
-    requires { ⌜ at + length (now characters) ≤ 2048 ⌝ }
+fn append(text: &mut [u8; 2560], at: usize, characters: &[u8]) -> usize
+    requires { ⌜ at + length (now characters) ≤ 2560 ⌝ }
     ensures { λ r. ⌜ Appended (now (text .entry)) at (now (characters .entry)) (length (now (characters .entry))) r (now (text .exit)) ⌝ }
 {
     let mut i = 0;
@@ -42,53 +50,42 @@ fn append(text: &mut [u8; 2048], at: usize, characters: &[u8]) -> usize
     at + i
 }
 
-// The decimal digits of a number, `most` at most.
-fn append_digits(text: &mut [u8; 2048], at: usize, n: usize, most: usize) -> usize
-    requires { ⌜ at + most ≤ 2048 ⌝ }
-    ensures { λ r. ⌜ Appended (now (text .entry)) at (decimalIn most n) most r (now (text .exit)) ⌝ }
-{
-    if most == 0 {
-        return at;
-    }
-    if n < 10 {
-        text[at] = 48 + (n as u8);
-        return at + 1;
-    }
-    let next = append_digits(text, at, n / 10, most - 1);
-    text[next] = 48 + ((n % 10) as u8);
-    next + 1
-}
-
 // A number in decimal.
-fn append_decimal(text: &mut [u8; 2048], at: usize, n: usize) -> usize
-    requires { ⌜ at + 20 ≤ 2048 ⌝ }
+fn append_decimal(text: &mut [u8; 2560], at: usize, n: u64) -> usize
+    requires { ⌜ at + 20 ≤ 2560 ⌝ }
     ensures { λ r. ⌜ Appended (now (text .entry)) at (decimal n) 20 r (now (text .exit)) ⌝ }
 {
-    append_digits(text, at, n, 20)
+    let mut digits = [0u8; 20];
+    let k = io::decimal(n, &mut digits);
+    append(text, at, &digits[..k])
 }
 
-// Two numbers in decimal.
-fn append_two(text: &mut [u8; 2048], at: usize, first: usize, second: usize) -> usize
-    requires { ⌜ at + 41 ≤ 2048 ⌝ }
-    ensures { λ r. ⌜ Appended (now (text .entry)) at (spaced (decimal first ∷ decimal second ∷ [])) 41 r (now (text .exit)) ⌝ }
+// A space in front of every number but the first.
+fn append_space(text: &mut [u8; 2560], at: usize, i: usize) -> usize
+    requires { ⌜ at + 1 ≤ 2560 ⌝ }
+    ensures { λ r. ⌜ Appended (now (text .entry)) at (spaceBefore i) 1 r (now (text .exit)) ⌝ }
 {
-    let next = append_decimal(text, at, first);
-    text[next] = 32;
-    append_decimal(text, next + 1, second)
+    if i == 0 { at } else { append(text, at, b" ") }
 }
 
-// Three numbers in decimal.
-fn append_three(text: &mut [u8; 2048], first: usize, second: usize, third: usize) -> usize
-    ensures { λ r. ⌜ Appended (now (text .entry)) 0 (spaced (decimal first ∷ decimal second ∷ decimal third ∷ [])) 62 r (now (text .exit)) ⌝ }
+// Numbers in decimal.
+fn append_numbers(text: &mut [u8; 2560], numbers: &[usize]) -> usize
+    requires { ⌜ length (now numbers) ≤ 10 ⌝ }
+    ensures { λ r. ⌜ Appended (now (text .entry)) 0 (spaced (map decimal (now (numbers .entry)))) 210 r (now (text .exit)) ⌝ }
 {
-    let next = append_decimal(text, 0, first);
-    text[next] = 32;
-    append_two(text, next + 1, second, third)
+    let mut next = 0;
+    let mut i = 0;
+    while i < numbers.len() {
+        next = append_space(text, next, i);
+        next = append_decimal(text, next, numbers[i] as u64);
+        i += 1;
+    }
+    next
 }
 
 // What was done for a command.
-fn append_command(text: &mut [u8; 2048], at: usize, command: Command) -> usize
-    requires { ⌜ at + 26 ≤ 2048 ⌝ }
+fn append_command(text: &mut [u8; 2560], at: usize, command: Command) -> usize
+    requires { ⌜ at + 26 ≤ 2560 ⌝ }
     ensures { λ r. ⌜ Appended (now (text .entry)) at (commandText command) 26 r (now (text .exit)) ⌝ }
 {
     match command {
@@ -102,31 +99,31 @@ fn append_command(text: &mut [u8; 2048], at: usize, command: Command) -> usize
         Command::Ping => append(text, at, b"ping"),
         Command::CrateReset(number) => {
             let next = append(text, at, b"reset ");
-            append_decimal(text, next, number as usize)
+            append_decimal(text, next, number as u64)
         }
     }
 }
 
 // An obeyed command.
-fn append_obeyed(text: &mut [u8; 2048], used: usize, command: Command) -> usize
+fn append_obeyed(text: &mut [u8; 2560], used: usize, command: Command) -> usize
     ensures { λ r. ⌜ Appended (now (text .entry)) 0 (spaced (fieldsOf (done used command))) 49 r (now (text .exit)) ⌝ }
 {
     let at = append(text, 0, b"0 ");
-    let next = append_decimal(text, at, used);
+    let next = append_decimal(text, at, used as u64);
     text[next] = 32;
     append_command(text, next + 1, command)
 }
 
 // " done" where the crate is done.
-fn append_done(text: &mut [u8; 2048], at: usize, done: bool) -> usize
-    requires { ⌜ at + 5 ≤ 2048 ⌝ }
+fn append_done(text: &mut [u8; 2560], at: usize, done: bool) -> usize
+    requires { ⌜ at + 5 ≤ 2560 ⌝ }
     ensures { λ r. ⌜ Appended (now (text .entry)) at (doneText done) 5 r (now (text .exit)) ⌝ }
 {
     if done { append(text, at, b" done") } else { at }
 }
 
 // A served reply or time-up.
-fn append_served(text: &mut [u8; 2048], outcome: Outcome) -> usize
+fn append_served(text: &mut [u8; 2560], outcome: Outcome) -> usize
     ensures { λ r. ⌜ Appended (now (text .entry)) 0 (spaced (fieldsOf (served outcome))) 13 r (now (text .exit)) ⌝ }
 {
     match outcome {
@@ -154,8 +151,8 @@ fn hex_digit(d: u8) -> u8
 }
 
 // A byte in hexadecimal.
-fn append_hex_byte(text: &mut [u8; 2048], at: usize, byte: u8) -> usize
-    requires { ⌜ at + 2 ≤ 2048 ⌝ }
+fn append_hex_byte(text: &mut [u8; 2560], at: usize, byte: u8) -> usize
+    requires { ⌜ at + 2 ≤ 2560 ⌝ }
     ensures { λ r. ⌜ Appended (now (text .entry)) at (hexByte byte) 2 r (now (text .exit)) ⌝ }
 {
     text[at] = hex_digit(byte / 16);
@@ -164,8 +161,8 @@ fn append_hex_byte(text: &mut [u8; 2048], at: usize, byte: u8) -> usize
 }
 
 // A word in hexadecimal.
-fn append_hex_word(text: &mut [u8; 2048], at: usize, word: u16) -> usize
-    requires { ⌜ at + 4 ≤ 2048 ⌝ }
+fn append_hex_word(text: &mut [u8; 2560], at: usize, word: u16) -> usize
+    requires { ⌜ at + 4 ≤ 2560 ⌝ }
     ensures { λ r. ⌜ Appended (now (text .entry)) at (hexWord word) 4 r (now (text .exit)) ⌝ }
 {
     let next = append_hex_byte(text, at, (word / 256) as u8);
@@ -180,7 +177,7 @@ fn lesser(a: usize, b: usize) -> usize
 }
 
 // 0, and as many of the bytes, or all.
-fn append_bytes(text: &mut [u8; 2048], bytes: &[u8], count: usize) -> usize
+fn append_bytes(text: &mut [u8; 2560], bytes: &[u8], count: usize) -> usize
     requires { ⌜ length (now bytes) ≤ 28 ⌝ }
     ensures { λ r. ⌜ Appended (now (text .entry)) 0 (spaced (fieldsOf (inBytes (take count (now (bytes .entry)))))) 58 r (now (text .exit)) ⌝ }
 {
@@ -194,41 +191,101 @@ fn append_bytes(text: &mut [u8; 2048], bytes: &[u8], count: usize) -> usize
     next
 }
 
-// 0, and as many of the words, or all.
-fn append_words(text: &mut [u8; 2048], words: &[u16], count: usize) -> usize
-    requires { ⌜ length (now words) ≤ 498 ⌝ }
-    ensures { λ r. ⌜ Appended (now (text .entry)) 0 (spaced (fieldsOf (inWords (take count (now (words .entry)))))) 1994 r (now (text .exit)) ⌝ }
+// As many of the words, or all.
+fn append_words(text: &mut [u8; 2560], at: usize, words: &[u16], count: usize) -> usize
+    requires { ⌜ at + 4 * length (now words) ≤ 2560 ⌝ }
+    ensures { λ r.
+        ⌜ Appended (now (text .entry)) at (joined hexWord (take count (now (words .entry)))) (4 * length (now (words .entry))) r (now (text .exit)) ⌝ }
 {
     let end = lesser(count, words.len());
-    let mut next = append(text, 0, b"0 ");
-    let mut i = 0;
-    while i < end {
-        next = append_hex_word(text, next, words[i]);
-        i += 1;
+    let mut next = at;
+    let mut place = 0;
+    while place < end {
+        next = append_hex_word(text, next, words[place]);
+        place += 1;
     }
     next
 }
 
+// A flag as 0 or 1.
+fn bit(flag: bool) -> usize
+    ensures { λ r. ⌜ r ≡ bitOf flag ⌝ }
+{
+    if flag { 1 } else { 0 }
+}
+
+// The numbers that are printed for a packet.
+fn packet_numbers(p: Packet) -> [usize; 10]
+    ensures { λ r. ⌜ r ≡ packetNumbers p ⌝ }
+{
+    let f = p.fields;
+    [
+        0,
+        p.number as usize,
+        f.n as usize,
+        bit(f.external1),
+        bit(f.external2),
+        bit(f.tim_source),
+        f.pulser_setting as usize,
+        bit(f.pedestal),
+        bit(f.lp2),
+        bit(f.lp1),
+    ]
+}
+
+// A packet that was read.
+fn append_packet(text: &mut [u8; 2560], p: Packet) -> usize
+    ensures { λ r. ⌜ Appended (now (text .entry)) 0 (spaced (map decimal (packetNumbers p))) 210 r (now (text .exit)) ⌝ }
+{
+    let numbers = packet_numbers(p);
+    append_numbers(text, &numbers)
+}
+
+// A block that was read: its header, and as many of the words, or all.
+fn append_block(text: &mut [u8; 2560], h: Header, words: &[u16], count: usize) -> usize
+    requires { ⌜ length (now words) ≤ 498 ⌝ }
+    ensures { λ r. ⌜ Appended (now (text .entry)) 0 (spaced (fieldsOf (block h (take count (now (words .entry)))))) 2058 r (now (text .exit)) ⌝ }
+{
+    let id = words64(h.board_id);
+    let counter = h.trigger_counter as u64;
+    let time = h.timestamp;
+    let mut next = append(text, 0, b"0 ");
+    next = append_words(text, next, &id, 4);
+    text[next] = 32;
+    next = append_hex_word(text, next + 1, h.firmware_id);
+    text[next] = 32;
+    next = append_decimal(text, next + 1, counter);
+    text[next] = 32;
+    next = append_decimal(text, next + 1, time);
+    text[next] = 32;
+    append_words(text, next + 1, words, count)
+}
+
 // The fields of what is printed.
 fn append_fields(
-    text: &mut [u8; 2048],
+    text: &mut [u8; 2560],
     response: Response,
     bytes: &[u8; 28],
     words: &[u16; 498],
 ) -> usize
     ensures { λ r.
         ⌜ Appended (now (text .entry)) 0 (spaced (fieldsOf (responseMeaning response (now (bytes .entry)) (now (words .entry)))))
-        1994 r (now (text .exit)) ⌝ }
+        2058 r (now (text .exit)) ⌝ }
 {
     match response {
         Response::Question => append(text, 0, b"?"),
-        Response::One(a) => append_decimal(text, 0, a),
-        Response::Two(a, b) => append_two(text, 0, a, b),
-        Response::Three(a, b, c) => append_three(text, a, b, c),
+        Response::One(a) => append_numbers(text, &[a]),
+        Response::Two(a, b) => append_numbers(text, &[a, b]),
+        Response::Three(a, b, c) => append_numbers(text, &[a, b, c]),
         Response::Done(used, command) => append_obeyed(text, used, command),
         Response::Served(outcome) => append_served(text, outcome),
         Response::Bytes(n) => append_bytes(text, bytes, n),
-        Response::Words(n) => append_words(text, words, n),
+        Response::Words(n) => {
+            let at = append(text, 0, b"0 ");
+            append_words(text, at, words, n)
+        }
+        Response::Packet(p) => append_packet(text, p),
+        Response::Block(h, n) => append_block(text, h, words, n),
     }
 }
 
@@ -246,7 +303,7 @@ pub fn write_response(
     response: Response,
     bytes: &[u8; 28],
     words: &[u16; 498],
-    text: &mut [u8; 2048],
+    text: &mut [u8; 2560],
 ) -> usize
     ensures { λ r. ⌜ r ≡ length (textOf (responseMeaning response (now (bytes .entry)) (now (words .entry)))) ⌝ }
     ensures { λ _. ⌜ now (text .exit) ≡ inFront (textOf (responseMeaning response (now (bytes .entry)) (now (words .entry)))) (now (text .entry)) ⌝ }

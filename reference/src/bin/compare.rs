@@ -3,21 +3,21 @@
 
 use std::collections::BTreeMap;
 use std::process::ExitCode;
-use std::sync::atomic::{AtomicBool, AtomicUsize, Ordering};
 use std::sync::Mutex;
 
 use reference::generate::{self, Generated};
 use reference::other::{self, shown};
+use reference::replay::MAX_DIGITS;
 
 const SCRIPTS: usize = 4000;
 const SEED: u64 = 1;
-/// Processes of the other program at once.
-const AT_ONCE: usize = 2;
-/// Differences reported before giving up.
-const REPORTED: usize = 10;
 
-/// Every answer that a script can get: the line's letter and the refusal, or
-/// what was done.
+/// How often each answer was seen, by its name.
+type Seen = BTreeMap<String, usize>;
+
+/// Every answer that the board's lines can get: the line's letter and the
+/// refusal, or what was done. `G 17` is left out: no script has the
+/// 4,294,967,295 triggers that must come before it.
 const REACHABLE: &[&str] = &[
     "P 0",
     "P 20",
@@ -75,90 +75,132 @@ const REACHABLE: &[&str] = &[
     "?",
 ];
 
-/// The name in `REACHABLE` of an answer to a line with this letter.
-fn name(letter: u8, answer: &[u8]) -> String {
+/// The same for the far end. With `W` and `Y` stands the byte after the letter;
+/// where a `W` is accepted, also the block that is read, an X, or the crate.
+const FAR_END: &[&str] = &[
+    "W0101 0", "W0102 0", "W02 0", "W02 6", "W02 8", "W04 0", "W04X 0", "W04 7", "W08 0", "W10 0",
+    "W2000 0", "W2001 0", "W2002 0", "W2003 0", "W20 11", "X 0", "X 13", "X 14", "X 15", "Y01 0",
+    "Y01 6", "Y01 8", "Y01 20", "Y02 0", "Y02 6", "Y02 8", "Y02 20", "Y03 0", "Y03 6", "Y03 20",
+    "Y04 0", "Y04 6", "Y04 20",
+];
+
+/// Lines of the far end in another form, by what is wrong with them.
+const OTHER_FORMS: &[&str] = &[
+    "W ? no ID",
+    "W ? other ID",
+    "W ? other block",
+    "W ? other digits",
+    "X ? half a byte",
+    "Y ? no kind",
+    "Y ? other kind",
+    "Y ? half a word",
+];
+
+/// The name of an answer to a line; all but `G 17` are in the three lists.
+fn name(line: &[u8], answer: &[u8]) -> String {
     let answer = String::from_utf8_lossy(answer);
     if answer == "?" {
-        return "?".to_string();
+        return other_form(line).unwrap_or("?").to_string();
     }
-    let letter = char::from(letter);
-    match answer.split_once(' ') {
-        Some(("0", rest)) => match letter {
-            'C' | 'R' | 'T' => format!("{letter} {rest}"),
-            _ => format!("{letter} 0"),
-        },
-        Some((number, _)) => format!("{letter} {number}"),
-        None => format!("{letter} {answer}"),
+    let (number, rest) = answer.split_once(' ').unwrap_or((&answer, ""));
+    let asked = asked(line, number == "0");
+    match (line[0], number) {
+        (b'C' | b'R' | b'T', "0") => format!("{asked} {rest}"),
+        _ => format!("{asked} {number}"),
     }
 }
 
-#[derive(Default)]
-struct Totals {
-    lines: usize,
-    differences: usize,
-    seen: BTreeMap<String, usize>,
-}
-
-/// The report of the first difference in a script, if there is one; counts the
-/// model's answers.
-fn compare(program: &str, script: &Generated, totals: &Mutex<Totals>) -> Option<String> {
-    let (printed, numbers) = other::model(&script.text);
-    let script_lines = other::lines(&script.text);
-    let ours = other::lines(&printed);
-    let mut seen: BTreeMap<String, usize> = BTreeMap::new();
-    for (answer, &number) in ours.iter().zip(&numbers) {
-        *seen.entry(name(script_lines[number][0], answer)).or_default() += 1;
+/// What the line asks for, as far as the lists tell it apart.
+fn asked(line: &[u8], accepted: bool) -> String {
+    let letter = char::from(line[0]);
+    if letter != 'W' && letter != 'Y' {
+        return letter.to_string();
     }
-    {
-        let mut totals = totals.lock().expect("no thread panicked");
-        totals.lines += ours.len();
-        for (name, count) in seen {
-            *totals.seen.entry(name).or_default() += count;
-        }
-    }
-    let (other_printed, status) = match other::run(program, &script.text) {
-        Ok(run) => run,
-        Err(error) => return Some(format!("cannot run {program}: {error}")),
+    let digits = line[1..].iter().filter(|&&byte| byte != b' ');
+    let digits: String = digits.map(|&digit| char::from(digit)).collect();
+    let first = |count: usize| digits.get(..count).unwrap_or(&digits);
+    let what = match (letter, first(2)) {
+        ('W', "01" | "20") if accepted => first(4),
+        ('W', "04") if accepted && digits.len() > 2 => "04X",
+        (_, byte) => byte,
     };
-    if !status.success() {
-        return Some(format!("the other program ended with {status}"));
+    format!("{letter}{what}")
+}
+
+/// What is wrong with a line of the far end that has another form; none if it
+/// has a character that is no digit, or too many digits.
+fn other_form(line: &[u8]) -> Option<&'static str> {
+    let mut digits = Vec::new();
+    for &byte in line[1..].iter().filter(|&&byte| byte != b' ') {
+        digits.push(char::from(byte).to_digit(16)?);
     }
-    if other_printed == printed {
+    if digits.len() > MAX_DIGITS {
         return None;
     }
-    let theirs = other::lines(&other_printed);
-    let place =
-        (0..ours.len().max(theirs.len())).find(|&place| ours.get(place) != theirs.get(place));
-    let Some(place) = place else {
-        return Some("the last line feed differs".to_string());
-    };
-    let line = match numbers.get(place) {
-        Some(&number) => {
-            format!("script line {}: {}", number + 1, shown(Some(script_lines[number])))
+    let first_byte = digits.get(..2).map(|pair| 16 * pair[0] + pair[1]);
+    match (line[0], first_byte) {
+        (b'W', None) => Some("W ? no ID"),
+        (b'W', Some(0x01)) if digits.len() == 4 => Some("W ? other block"),
+        (b'W', Some(0x01 | 0x02 | 0x04 | 0x08 | 0x10 | 0x20)) => Some("W ? other digits"),
+        (b'W', Some(_)) => Some("W ? other ID"),
+        (b'X', _) => Some("X ? half a byte"),
+        (b'Y', None) => Some("Y ? no kind"),
+        (b'Y', Some(1..=4)) => Some("Y ? half a word"),
+        (b'Y', Some(_)) if digits.len() % 4 == 2 => Some("Y ? other kind"),
+        _ => None,
+    }
+}
+
+/// Compares a script's lines and gives how many there are, or the first
+/// difference; counts the model's answers.
+fn compare(program: &str, script: &[u8], seen: &Mutex<Seen>) -> Result<usize, String> {
+    let (printed, numbers) = other::model(script);
+    let script_lines = other::lines(script);
+    let ours = other::lines(&printed);
+    let mut names = Seen::new();
+    for (answer, &number) in ours.iter().zip(&numbers) {
+        *names.entry(name(script_lines[number], answer)).or_default() += 1;
+    }
+    {
+        let mut seen = seen.lock().expect("no thread panicked");
+        for (name, count) in names {
+            *seen.entry(name).or_default() += count;
         }
+    }
+    let (other_printed, status) =
+        other::run(program, script).map_err(|error| format!("cannot run {program}: {error}"))?;
+    if !status.success() {
+        return Err(format!("the other program ended with {status}"));
+    }
+    if other_printed == printed {
+        return Ok(ours.len());
+    }
+    let theirs = other::lines(&other_printed);
+    let place = (0..ours.len().max(theirs.len()))
+        .find(|&place| ours.get(place) != theirs.get(place))
+        .ok_or("the last line feed differs")?;
+    let line = numbers.get(place).map(|&number| (number, script_lines[number]));
+    Err(difference(line, ours.get(place).copied(), theirs.get(place).copied()))
+}
+
+/// The report of two answers to a line of the script, given with its number.
+fn difference(line: Option<(usize, &[u8])>, ours: Option<&[u8]>, theirs: Option<&[u8]>) -> String {
+    let line = match line {
+        Some((number, line)) => format!("script line {}: {}", number + 1, shown(Some(line))),
         None => "after the script's last line".to_string(),
     };
-    Some(format!(
-        "{line}\n  model: {}\n  other: {}",
-        shown(ours.get(place).copied()),
-        shown(theirs.get(place).copied())
-    ))
+    format!("{line}\n  model: {}\n  other: {}", shown(ours), shown(theirs))
 }
 
-fn report(script: &Generated, number: usize, seed: u64, difference: &str) {
-    let file = std::env::temp_dir().join(format!("ftm-script-{seed}-{number}.txt"));
-    let saved = match std::fs::write(&file, &script.text) {
-        Ok(()) => format!("saved as {}", file.display()),
-        Err(error) => format!("not saved as {}: {error}", file.display()),
-    };
-    println!(
-        "script {number} ({} {}), seed {seed}: {difference}\n  {saved}",
-        script.family, script.index
-    );
+/// The report of a script that differs, which is saved.
+fn report(script: &Generated, number: usize, seed: u64, difference: &str) -> String {
+    let saved = other::save(&format!("script-{seed}-{number}.txt"), &script.text);
+    let Generated { family, index, .. } = script;
+    format!("script {number} ({family} {index}), seed {seed}: {difference}\n  {saved}")
 }
 
-/// Prints how often each answer was seen; false if one was never seen.
-fn check_seen(seen: &BTreeMap<String, usize>) -> bool {
+/// Prints how often each answer was seen.
+fn print_seen(seen: &Seen) {
     let mut refusals: BTreeMap<usize, usize> = BTreeMap::new();
     let mut others = String::new();
     for (name, count) in seen {
@@ -172,66 +214,98 @@ fn check_seen(seen: &BTreeMap<String, usize>) -> bool {
         refusals.iter().map(|(number, count)| format!(" {number}: {count},")).collect();
     println!("refusals:{}", refusals.trim_end_matches(','));
     println!("answers:{}", others.trim_end_matches(','));
-    let missing: Vec<&str> =
-        REACHABLE.iter().copied().filter(|&name| !seen.contains_key(name)).collect();
-    if !missing.is_empty() {
-        println!("never seen: {}", missing.join(", "));
+}
+
+/// False, with a line that says which, if an answer in the lists was never seen
+/// or one was seen that is in none.
+fn check_seen(seen: &Seen) -> bool {
+    let listed = [REACHABLE, FAR_END, OTHER_FORMS].concat();
+    let missing = listed.iter().copied().filter(|&name| !seen.contains_key(name)).collect();
+    let unlisted = seen.keys().map(String::as_str).filter(|name| !listed.contains(name)).collect();
+    let mut right = true;
+    for (what, names) in [("never seen", missing), ("seen and not listed", unlisted)] {
+        let names: Vec<&str> = names;
+        if !names.is_empty() {
+            println!("{what}: {}", names.join(", "));
+            right = false;
+        }
     }
-    missing.is_empty()
+    right
 }
 
 fn main() -> ExitCode {
-    let arguments: Vec<String> = std::env::args().skip(1).collect();
-    let numbers: Option<Vec<u64>> =
-        arguments.iter().skip(1).map(|argument| argument.parse().ok()).collect();
-    let (Some(program), Some(numbers), true) = (arguments.first(), numbers, arguments.len() <= 3)
-    else {
+    let Some((program, scripts, seed)) = other::arguments(SCRIPTS, SEED) else {
         eprintln!("usage: compare PATH-TO-OTHER-REPLAY [SCRIPTS [SEED]]");
         return ExitCode::from(2);
     };
-    let scripts = numbers.first().map_or(SCRIPTS, |&number| number as usize);
-    let seed = numbers.get(1).copied().unwrap_or(SEED);
-
-    let next = AtomicUsize::new(0);
-    let served = AtomicUsize::new(0);
-    let stop = AtomicBool::new(false);
-    let totals = Mutex::new(Totals::default());
-    std::thread::scope(|scope| {
-        for _ in 0..AT_ONCE {
-            scope.spawn(|| {
-                while !stop.load(Ordering::Relaxed) {
-                    let number = next.fetch_add(1, Ordering::Relaxed);
-                    if number >= scripts {
-                        break;
-                    }
-                    let script = generate::script(seed, number);
-                    let difference = compare(program, &script, &totals);
-                    served.fetch_add(1, Ordering::Relaxed);
-                    if let Some(difference) = difference {
-                        let mut totals = totals.lock().expect("no thread panicked");
-                        totals.differences += 1;
-                        if totals.differences <= REPORTED {
-                            report(&script, number, seed, &difference);
-                        }
-                        if totals.differences >= REPORTED {
-                            stop.store(true, Ordering::Relaxed);
-                        }
-                    }
-                }
-            });
-        }
+    let seen = Mutex::new(Seen::new());
+    let compared = other::compare_all(scripts, |number| {
+        let script = generate::script(seed, number);
+        compare(&program, &script.text, &seen)
+            .map_err(|difference| report(&script, number, seed, &difference))
     });
+    let seen = seen.into_inner().expect("no thread panicked");
+    print_seen(&seen);
+    let right = check_seen(&seen);
+    let (verdict, code) = match (compared.differing, right) {
+        (0, true) => ("all agree".to_string(), ExitCode::SUCCESS),
+        (0, false) => ("agree, but with other answers than those listed".into(), ExitCode::FAILURE),
+        (differing, _) => (format!("{differing} scripts differ"), ExitCode::FAILURE),
+    };
+    println!("{} scripts, {} lines: {verdict}", compared.served, compared.lines);
+    code
+}
 
-    let served = served.into_inner();
-    let totals = totals.into_inner().expect("no thread panicked");
-    let all_seen = check_seen(&totals.seen);
-    if totals.differences > 0 {
-        println!("{served} scripts, {} lines: {} scripts differ", totals.lines, totals.differences);
-    } else if !all_seen {
-        println!("{served} scripts, {} lines: agree, but not every answer was seen", totals.lines);
-    } else {
-        println!("{served} scripts, {} lines: all agree", totals.lines);
-        return ExitCode::SUCCESS;
+#[cfg(test)]
+mod tests {
+    use super::*;
+
+    #[test]
+    fn names_of_answers() {
+        for (line, answer, expected) in [
+            ("T 04", "11", "T 11"),
+            ("C", "1 0", "C 1"),
+            ("R00", "0 good done", "R good done"),
+            ("W 0 2", "8 435", "W02 8"),
+            ("W01 02", "0 00400001000200000000", "W0102 0"),
+            ("W04", "0 00400004000100000000", "W04 0"),
+            ("W04 00011170", "0 0040000400020000000000011170", "W04X 0"),
+            ("W 0400000000", "7", "W04 7"),
+            ("W20 03", "0 00400020000800000000", "W2003 0"),
+            ("W20 04", "11", "W20 11"),
+            ("X", "13", "X 13"),
+            ("Y0400", "6", "Y04 6"),
+            ("S0", "?", "?"),
+            ("W0x", "?", "?"),
+            ("W 0", "?", "W ? no ID"),
+            ("W40", "?", "W ? other ID"),
+            ("W0103", "?", "W ? other block"),
+            ("W0100", "?", "W ? other block"),
+            ("W08 00", "?", "W ? other digits"),
+            ("X0", "?", "X ? half a byte"),
+            ("Y", "?", "Y ? no kind"),
+            ("Y05 0000", "?", "Y ? other kind"),
+            ("Y01 00", "?", "Y ? half a word"),
+        ] {
+            assert_eq!(name(line.as_bytes(), answer.as_bytes()), expected);
+        }
     }
-    ExitCode::FAILURE
+
+    #[test]
+    fn answers_are_those_listed() {
+        let listed = [REACHABLE, FAR_END, OTHER_FORMS].concat();
+        let seen: Seen = listed.iter().map(|name| (name.to_string(), 1)).collect();
+        assert_eq!(seen.len(), listed.len());
+        assert!(check_seen(&seen));
+        for name in listed {
+            let mut fewer = seen.clone();
+            fewer.remove(name);
+            assert!(!check_seen(&fewer), "without {name}");
+        }
+        for name in ["G 17", "W04 0 0", "Y03 8", "R again done"] {
+            let mut more = seen.clone();
+            more.insert(name.to_string(), 1);
+            assert!(!check_seen(&more), "with {name}");
+        }
+    }
 }

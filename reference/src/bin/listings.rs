@@ -115,7 +115,9 @@ fn main() -> ExitCode {
         }
     }
     if cases == 0 || differ > 0 {
-        println!("{cases} inputs of the listing: {differ} are listed otherwise than the table says");
+        println!(
+            "{cases} inputs of the listing: {differ} are listed otherwise than the table says"
+        );
         return ExitCode::FAILURE;
     }
     println!("{cases} inputs of the listing: all are listed as the table says");

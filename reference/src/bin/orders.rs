@@ -3,18 +3,12 @@
 //! `orders PATH-TO-OTHER-REPLAY [PASSES [SEED]]`.
 
 use std::process::ExitCode;
-use std::sync::atomic::{AtomicBool, AtomicUsize, Ordering};
-use std::sync::Mutex;
 
 use reference::generate::{self, bytes_line, Item, Pass};
-use reference::other::{self, shown};
+use reference::other::{self, shown, Compared};
 
 const PASSES: usize = 500;
 const SEED: u64 = 1;
-/// Processes of the other program at once.
-const AT_ONCE: usize = 2;
-/// Differences reported before giving up.
-const REPORTED: usize = 10;
 /// Lines for each item: itself, the frame and the number of its crate.
 const PER_ITEM: usize = 3;
 
@@ -99,26 +93,28 @@ fn compare_orders(
     difference("after the pass", first.after, second.after).map_err(with_name)
 }
 
+/// What the other program prints on this script.
+fn run_other(program: &str, text: &[u8]) -> Result<Vec<u8>, String> {
+    let (printed, status) =
+        other::run(program, text).map_err(|error| format!("cannot run {program}: {error}"))?;
+    if !status.success() {
+        return Err(format!("the other program ended with {status}"));
+    }
+    Ok(printed)
+}
+
 /// Serves one pass; gives the number of lines compared.
 fn serve(program: &str, pass: &Pass) -> Result<usize, String> {
     let mixed: Vec<&Item> = pass.items.iter().collect();
     let mut sorted = mixed.clone();
     sorted.sort_by_key(|item| group(item));
 
-    let run_other = |text: &[u8]| -> Result<Vec<u8>, String> {
-        let (printed, status) =
-            other::run(program, text).map_err(|error| format!("cannot run {program}: {error}"))?;
-        if !status.success() {
-            return Err(format!("the other program ended with {status}"));
-        }
-        Ok(printed)
-    };
     let mixed_text = script(pass, &mixed);
     let sorted_text = script(pass, &sorted);
     let (our_mixed, _) = other::model(&mixed_text);
     let (our_sorted, _) = other::model(&sorted_text);
-    let their_mixed = run_other(&mixed_text)?;
-    let their_sorted = run_other(&sorted_text)?;
+    let their_mixed = run_other(program, &mixed_text)?;
+    let their_sorted = run_other(program, &sorted_text)?;
 
     compare_orders(
         "model, mixed and by crate",
@@ -141,69 +137,24 @@ fn serve(program: &str, pass: &Pass) -> Result<usize, String> {
     Ok(other::lines(&our_mixed).len() + other::lines(&our_sorted).len())
 }
 
-fn report(pass: &Pass, number: usize, seed: u64, difference: &str) {
+/// The report of a pass that differs, whose mixed order is saved.
+fn report(pass: &Pass, number: usize, seed: u64, difference: &str) -> String {
     let mixed: Vec<&Item> = pass.items.iter().collect();
-    let file = std::env::temp_dir().join(format!("ftm-pass-{seed}-{number}.txt"));
-    let saved = match std::fs::write(&file, script(pass, &mixed)) {
-        Ok(()) => format!("the mixed order is saved as {}", file.display()),
-        Err(error) => format!("not saved as {}: {error}", file.display()),
-    };
-    println!("pass {number}, seed {seed}: {difference}\n  {saved}");
+    let saved = other::save(&format!("pass-{seed}-{number}.txt"), &script(pass, &mixed));
+    format!("pass {number}, seed {seed}: {difference}\n  the mixed order: {saved}")
 }
 
 fn main() -> ExitCode {
-    let arguments: Vec<String> = std::env::args().skip(1).collect();
-    let numbers: Option<Vec<u64>> =
-        arguments.iter().skip(1).map(|argument| argument.parse().ok()).collect();
-    let (Some(program), Some(numbers), true) = (arguments.first(), numbers, arguments.len() <= 3)
-    else {
+    let Some((program, passes, seed)) = other::arguments(PASSES, SEED) else {
         eprintln!("usage: orders PATH-TO-OTHER-REPLAY [PASSES [SEED]]");
         return ExitCode::from(2);
     };
-    let passes = numbers.first().map_or(PASSES, |&number| number as usize);
-    let seed = numbers.get(1).copied().unwrap_or(SEED);
-
-    let next = AtomicUsize::new(0);
-    let served = AtomicUsize::new(0);
-    let lines = AtomicUsize::new(0);
-    let stop = AtomicBool::new(false);
-    let differences = Mutex::new(0usize);
-    std::thread::scope(|scope| {
-        for _ in 0..AT_ONCE {
-            scope.spawn(|| {
-                while !stop.load(Ordering::Relaxed) {
-                    let number = next.fetch_add(1, Ordering::Relaxed);
-                    if number >= passes {
-                        break;
-                    }
-                    let pass = generate::pass(seed, number);
-                    let result = serve(program, &pass);
-                    served.fetch_add(1, Ordering::Relaxed);
-                    match result {
-                        Ok(count) => {
-                            lines.fetch_add(count, Ordering::Relaxed);
-                        }
-                        Err(difference) => {
-                            let mut differences = differences.lock().expect("no thread panicked");
-                            *differences += 1;
-                            if *differences <= REPORTED {
-                                report(&pass, number, seed, &difference);
-                            }
-                            if *differences >= REPORTED {
-                                stop.store(true, Ordering::Relaxed);
-                            }
-                        }
-                    }
-                }
-            });
-        }
+    let Compared { served, lines, differing } = other::compare_all(passes, |number| {
+        let pass = generate::pass(seed, number);
+        serve(&program, &pass).map_err(|difference| report(&pass, number, seed, &difference))
     });
-
-    let served = served.into_inner();
-    let lines = lines.into_inner();
-    let differences = differences.into_inner().expect("no thread panicked");
-    if differences > 0 || served == 0 {
-        println!("{served} passes in two orders, {lines} lines: {differences} passes differ");
+    if differing > 0 || served == 0 {
+        println!("{served} passes in two orders, {lines} lines: {differing} passes differ");
         return ExitCode::FAILURE;
     }
     println!("{served} passes in two orders, {lines} lines: all agree");

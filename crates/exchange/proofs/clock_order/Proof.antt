@@ -1,7 +1,7 @@
 -- `exchange::clock_order` meets its contract. Assumes nothing.
 use denote.Ref.{now}
 use borrow.Author.Tests.{ne-eqb}
-use Rattle.exchange.proofs.Writing.{words-whole}
+use Rattle.words.proofs.Front.{words-whole}
 use Rattle.exchange.proofs.Changing.{unserved, clocked}
 use borrow.Author.Needs.{needs}
 use Rattle.exchange.proofs.clock_order.Statement.{statement}

@@ -1,7 +1,7 @@
 -- `exchange::command_order` meets its contract. Assumes nothing.
 use denote.Ref.{now}
 use borrow.Author.Tests.{ne-eqb}
-use Rattle.exchange.proofs.Writing.{words-front, front-length}
+use Rattle.words.proofs.Front.{words-front, front-length}
 use Rattle.exchange.proofs.Changing.{unserved, commanded}
 use borrow.Author.Needs.{needs}
 use Rattle.exchange.proofs.command_order.Statement.{statement}

@@ -1,7 +1,7 @@
 -- `exchange::dynamic_order` meets its contract. Assumes nothing.
 use denote.Ref.{now}
 use borrow.Author.Tests.{ne-eqb}
-use Rattle.exchange.proofs.Writing.{words-front, front-length}
+use Rattle.words.proofs.Front.{words-front, front-length}
 use Rattle.exchange.proofs.Asking.{question-response, dynamic-asked}
 use borrow.Author.Needs.{needs}
 use Rattle.exchange.proofs.dynamic_order.Statement.{statement}

@@ -3,9 +3,6 @@ use borrow.Author.Needs.{needs}
 use Rattle.exchange.proofs.Lines.{questioned}
 use Rattle.exchange.proofs.question.Statement.{statement}
 use Rattle.exchange.proofs.question.Tie as tie
-use Rattle.exchange.proofs.question.Reads as reads
-use Rattle.exchange.proofs.question.Lts as lts
-use Rattle.texts.proofs.write_response.Reads as write-response-reads
 
 write-response-requires : tie.Need-write-response-requires
 write-response-requires c κs = search needs

@@ -3,10 +3,6 @@ use borrow.Author.Needs.{needs}
 use Rattle.exchange.proofs.Lines.{empty, comment, order-form, malformed-form, as-line, passed-over}
 use Rattle.exchange.proofs.serve_line.Statement.{statement}
 use Rattle.exchange.proofs.serve_line.Tie as tie
-use Rattle.exchange.proofs.serve_line.Reads as reads
-use Rattle.exchange.proofs.serve_line.Lts as lts
-use Rattle.exchange.proofs.question.Reads as question-reads
-use Rattle.exchange.proofs.serve_read.Reads as serve-read-reads
 
 enum-told : tie.Need-enum-told
 enum-told c = search needs

@@ -1,7 +1,7 @@
 -- `exports::good_packet` meets its contract. Assumes nothing.
 use mathlib.Core.Path.{sym, ap, _∙_}
 use Rattle.refusals.specs.Tables.{isGiven}
-use Rattle.packets.specs.Packets.{readMeaning}
+use Rattle.packet_reader.specs.Reading.{readMeaning}
 use borrow.Author.Needs.{needs}
 use native.Mathlib.Omega.{arith}
 use Rattle.exports.proofs.good_packet.Statement.{statement}

@@ -4,15 +4,6 @@ use lib.ListN.{length}
 use borrow.Author.Needs.{needs}
 use Rattle.replay.proofs.main.Statement.{statement}
 use Rattle.replay.proofs.main.Tie as tie
-use Rattle.replay.proofs.main.Reads as reads
-use Rattle.replay.proofs.main.Lts as lts
-use Rattle.board.proofs.power_up.Reads as power-up-reads
-use Rattle.io.proofs.buffer.Reads as buffer-reads
-use Rattle.io.proofs.count.Reads as count-reads
-use Rattle.libc.proofs.read.Reads as read-reads
-use Rattle.replay.proofs.serve_last.Reads as serve-last-reads
-use Rattle.replay.proofs.serve_part.Reads as serve-part-reads
-use Rattle.script.proofs.line_begun.Reads as line-begun-reads
 
 abbrev Inv-loop : tie.InvT-loop
 Inv-loop standing₀ bytes₀ input₀ left₀ state bytes input left = 4096 ≡ length input

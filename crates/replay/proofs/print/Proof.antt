@@ -6,15 +6,12 @@ use borrow.Author.Needs.{needs}
 use native.Mathlib.Omega.{arith}
 use Rattle.replay.proofs.print.Statement.{statement}
 use Rattle.replay.proofs.print.Tie as tie
-use Rattle.replay.proofs.print.Reads as reads
-use Rattle.replay.proofs.print.Lts as lts
-use Rattle.io.proofs.write_all.Reads as write-all-reads
 
 array-share-prefix-text : tie.Need-array-share-prefix-text
 array-share-prefix-text c = search needs
 
 slice-aggregate-write-all : tie.Need-slice-aggregate-write-all
-slice-aggregate-write-all c = let h : length (c .before .before .args .t1) ≡ 2048 = search needs in sym (length-take-le _ _ (omega (arith, h)))
+slice-aggregate-write-all c = let h : length (c .before .before .args .t1) ≡ 2560 = search needs in sym (length-take-le _ _ (omega (arith, h)))
 
 write-all-requires : tie.Need-write-all-requires
 write-all-requires c κs = search needs

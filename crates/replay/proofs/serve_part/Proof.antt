@@ -4,11 +4,6 @@ use lib.ListN.{length}
 use borrow.Author.Needs.{needs}
 use Rattle.replay.proofs.serve_part.Statement.{statement}
 use Rattle.replay.proofs.serve_part.Tie as tie
-use Rattle.replay.proofs.serve_part.Reads as reads
-use Rattle.replay.proofs.serve_part.Lts as lts
-use Rattle.replay.proofs.serve.Reads as serve-reads
-use Rattle.script.proofs.line_begun.Reads as line-begun-reads
-use Rattle.script.proofs.read_on.Reads as read-on-reads
 
 abbrev Inv-loop : tie.InvT-loop
 Inv-loop part bytes₀ board₀ reading₀ i₀ bytes board reading i = i ≤ length part

@@ -2,20 +2,21 @@
 use Prim.Native.Nat.{ℕ, _≤_}
 use mathlib.Core.Path.{_≡_, ap}
 use mathlib.Core.List.{List}
+use lib.ListN.{length}
 use denote.Ref.{now}
 use Rattle.texts.specs.Texts.{spaced, fieldsOf, responseMeaning}
 use Rattle.texts.specs.CodeShape.{Appended}
 use Rattle.texts.specs.declared.Response.{Response}
-use Rattle.texts.proofs.Laws.{within}
+use Rattle.texts.proofs.Laws.{both, within}
 use borrow.Author.Needs.{needs}
 use native.Mathlib.Omega.{arith}
 use Rattle.texts.proofs.append_fields.Statement.{statement}
 use Rattle.texts.proofs.append_fields.Tie as tie
 
 -- what was appended is what is printed
-shown : {d e : List ℕ} {s t : Response} {m next : ℕ} (bytes words : List ℕ) → s ≡ t → m ≤ 1994
+shown : {d e : List ℕ} {s t : Response} {m next : ℕ} (bytes words : List ℕ) → s ≡ t → m ≤ 2058
     → Appended d 0 (spaced (fieldsOf (responseMeaning t bytes words))) m next e
-    → Appended d 0 (spaced (fieldsOf (responseMeaning s bytes words))) 1994 next e
+    → Appended d 0 (spaced (fieldsOf (responseMeaning s bytes words))) 2058 next e
 shown bytes words h k p = within (ap (λ (s : Response). spaced (fieldsOf (responseMeaning s bytes words))) h) k p
 
 enum-told : tie.Need-enum-told
@@ -30,20 +31,29 @@ append-requires c κs = search needs
 enum-known-response : tie.Need-enum-known-response
 enum-known-response c = search needs
 
-append-decimal-requires : tie.Need-append-decimal-requires
-append-decimal-requires c κs = search needs
+slice-aggregate-append-numbers : tie.Need-slice-aggregate-append-numbers
+slice-aggregate-append-numbers c = search needs
+
+append-numbers-requires : tie.Need-append-numbers-requires
+append-numbers-requires c κs = search needs
 
 enum-known-response-2 : tie.Need-enum-known-response-2
 enum-known-response-2 c = search needs
 
-append-two-requires : tie.Need-append-two-requires
-append-two-requires c κs = search needs
+slice-aggregate-append-numbers-2 : tie.Need-slice-aggregate-append-numbers-2
+slice-aggregate-append-numbers-2 c = search needs
+
+append-numbers-requires-2 : tie.Need-append-numbers-requires-2
+append-numbers-requires-2 c κs = search needs
 
 enum-known-response-3 : tie.Need-enum-known-response-3
 enum-known-response-3 c = search needs
 
-append-three-requires : tie.Need-append-three-requires
-append-three-requires c κs = search needs
+slice-aggregate-append-numbers-3 : tie.Need-slice-aggregate-append-numbers-3
+slice-aggregate-append-numbers-3 c = search needs
+
+append-numbers-requires-3 : tie.Need-append-numbers-requires-3
+append-numbers-requires-3 c κs = search needs
 
 enum-known-response-4 : tie.Need-enum-known-response-4
 enum-known-response-4 c = search needs
@@ -66,8 +76,26 @@ append-bytes-requires c κs = search needs
 enum-known-response-7 : tie.Need-enum-known-response-7
 enum-known-response-7 c = search needs
 
+slice-aggregate-append-2 : tie.Need-slice-aggregate-append-2
+slice-aggregate-append-2 c = search needs
+
+append-requires-2 : tie.Need-append-requires-2
+append-requires-2 c κs = search needs
+
 append-words-requires : tie.Need-append-words-requires
 append-words-requires c κs = search needs
+
+enum-known-response-8 : tie.Need-enum-known-response-8
+enum-known-response-8 c = search needs
+
+append-packet-requires : tie.Need-append-packet-requires
+append-packet-requires c κs = search needs
+
+enum-known-response-9 : tie.Need-enum-known-response-9
+enum-known-response-9 c = search needs
+
+append-block-requires : tie.Need-append-block-requires
+append-block-requires c κs = search needs
 
 returns : tie.Need-returns
 returns c =
@@ -77,21 +105,21 @@ returns c =
 
 returns-2 : tie.Need-returns-2
 returns-2 c =
-    let told = c .before .before .before in
+    let told = c .before .before .before .before in
     let a = told .before .before .args in
-    shown (now (a .bytes)) (now (a .words)) (told .response .given .1) (omega arith) (c .append-decimal .ensures)
+    shown (now (a .bytes)) (now (a .words)) (told .response .given .1) (omega arith) (c .append-numbers .ensures)
 
 returns-3 : tie.Need-returns-3
 returns-3 c =
-    let told = c .before .before .before in
+    let told = c .before .before .before .before in
     let a = told .before .before .args in
-    shown (now (a .bytes)) (now (a .words)) (told .response2 .given .1) (omega arith) (c .append-two .ensures)
+    shown (now (a .bytes)) (now (a .words)) (told .response2 .given .1) (omega arith) (c .append-numbers2 .ensures)
 
 returns-4 : tie.Need-returns-4
 returns-4 c =
-    let told = c .before .before .before in
+    let told = c .before .before .before .before in
     let a = told .before .before .args in
-    shown (now (a .bytes)) (now (a .words)) (told .response3 .given .1) (omega arith) (c .append-three .ensures)
+    shown (now (a .bytes)) (now (a .words)) (told .response3 .given .1) (omega arith) (c .append-numbers3 .ensures)
 
 returns-5 : tie.Need-returns-5
 returns-5 c =
@@ -113,9 +141,23 @@ returns-7 c =
 
 returns-8 : tie.Need-returns-8
 returns-8 c =
+    let at-append = c .before .before .before in
+    let told = at-append .before .before .before .before in
+    let a = told .before .before .args in
+    let l : length (now (a .words)) ≡ 498 = search needs in
+    shown (now (a .bytes)) (now (a .words)) (told .response7 .given .1) (omega (arith, l)) (both (at-append .append2 .ensures) (c .append-words .ensures))
+
+returns-9 : tie.Need-returns-9
+returns-9 c =
+    let told = c .before .before .before in
+    let a = told .before .before .args in
+    shown (now (a .bytes)) (now (a .words)) (told .response8 .given .1) (omega arith) (c .append-packet .ensures)
+
+returns-10 : tie.Need-returns-10
+returns-10 c =
     let told = c .before .before .before .before in
     let a = told .before .before .args in
-    shown (now (a .bytes)) (now (a .words)) (told .response7 .given .1) (omega arith) (c .append-words .ensures)
+    shown (now (a .bytes)) (now (a .words)) (told .response9 .given .1) (omega arith) (c .append-block .ensures)
 
 pub append-fields-spec : {M : Type 1} → statement M
 append-fields-spec =
@@ -125,11 +167,14 @@ append-fields-spec =
     slice-aggregate-append
     append-requires
     enum-known-response
-    append-decimal-requires
+    slice-aggregate-append-numbers
+    append-numbers-requires
     enum-known-response-2
-    append-two-requires
+    slice-aggregate-append-numbers-2
+    append-numbers-requires-2
     enum-known-response-3
-    append-three-requires
+    slice-aggregate-append-numbers-3
+    append-numbers-requires-3
     enum-known-response-4
     append-obeyed-requires
     enum-known-response-5
@@ -137,7 +182,13 @@ append-fields-spec =
     enum-known-response-6
     append-bytes-requires
     enum-known-response-7
+    slice-aggregate-append-2
+    append-requires-2
     append-words-requires
+    enum-known-response-8
+    append-packet-requires
+    enum-known-response-9
+    append-block-requires
     returns
     returns-2
     returns-3
@@ -145,4 +196,6 @@ append-fields-spec =
     returns-5
     returns-6
     returns-7
-    returns-8)
+    returns-8
+    returns-9
+    returns-10)

@@ -1,0 +1,3 @@
+-- What the contracts cite.
+pub mod FarEnd
+pub mod CodeShape
