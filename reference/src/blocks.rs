@@ -1,6 +1,6 @@
 //! Data blocks, written and read (01, Blocks sent out).
 
-use crate::{check_bounds, configuration, frames::Frame, Refusal, BOARDS, CRATES, ID_LIMIT};
+use crate::{configuration, frames::Frame, Refusal, BOARDS, CRATES, ID_LIMIT};
 
 /// Words of the header.
 pub const HEADER: usize = 11;
@@ -80,7 +80,21 @@ pub fn check_measurements(words: &[u16]) -> Result<(), Refusal> {
     if words.len() != MEASUREMENTS {
         return Err(Refusal::WrongLength);
     }
-    check_bounds(words, measurement_bound)
+    check_rates(words, 0)
+}
+
+/// Checks the high words of the rates; `offset` is the place of `measurements`
+/// in what the caller counts in.
+fn check_rates(measurements: &[u16], offset: usize) -> Result<(), Refusal> {
+    for (board, words) in measurements[4..].chunks_exact(12).enumerate() {
+        for pair in 0..5 {
+            if words[2 * pair] > RATE_HIGH {
+                let place = offset + 4 + 12 * board + 2 * pair;
+                return Err(Refusal::AboveBound { place });
+            }
+        }
+    }
+    Ok(())
 }
 
 /// The high, middle and low word of a 48-bit counter.
@@ -163,7 +177,11 @@ pub fn read(kind: Kind, words: &[u16]) -> Result<(Header, &[u16]), Refusal> {
         return Err(Refusal::WrongLength);
     }
     let (head, body) = words.split_at(HEADER);
-    check_bounds(body, |place| kind.bound(place))?;
+    match kind {
+        Kind::Static => configuration::check(body)?,
+        Kind::Dynamic => check_rates(&body[ON_TIME..], ON_TIME)?,
+        Kind::List | Kind::Failure => {}
+    }
     let number = |words: &[u16]| words.iter().fold(0u64, |sum, &word| sum << 16 | u64::from(word));
     let board_id = number(&head[..4]);
     if board_id >= ID_LIMIT || head[10] != 0 {

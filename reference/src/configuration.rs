@@ -1,6 +1,6 @@
 //! The static block of 436 words (01, The configuration).
 
-use crate::{check_bounds, Refusal, BOARDS_PER_CRATE};
+use crate::{Refusal, BOARDS_PER_CRATE};
 
 /// Words of the static block.
 pub const WORDS: usize = 436;
@@ -28,7 +28,12 @@ pub fn check(block: &[u16]) -> Result<(), Refusal> {
     if block.len() != WORDS {
         return Err(Refusal::WrongLength);
     }
-    check_bounds(block, bound)
+    for place in (0..4).chain(ACTIVE..WORDS) {
+        if block[place] > bound(place) {
+            return Err(Refusal::AboveBound { place });
+        }
+    }
+    Ok(())
 }
 
 /// The place of the first of the ten words of board `board` of crate `crate_number`.

@@ -76,14 +76,6 @@ impl Refusal {
     }
 }
 
-/// Refuses with 8 and the lowest place whose word is above its bound.
-fn check_bounds(words: &[u16], bound: impl Fn(usize) -> u16) -> Result<(), Refusal> {
-    match (0..words.len()).find(|&place| words[place] > bound(place)) {
-        Some(place) => Err(Refusal::AboveBound { place }),
-        None => Ok(()),
-    }
-}
-
 /// Number of crates, and of FTU boards in a crate and in all.
 pub const CRATES: usize = 4;
 pub const BOARDS_PER_CRATE: usize = 10;
