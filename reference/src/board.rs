@@ -122,7 +122,8 @@ impl Board {
         self.mode
     }
 
-    /// Whether the stored block was written after the last start.
+    /// Whether no start and no crate reset was accepted since the last accepted
+    /// write; false before any.
     pub fn fresh(&self) -> bool {
         self.fresh
     }
@@ -176,7 +177,11 @@ impl Board {
                 self.begin_pass(Mode::Ping);
                 Ok(Done::Ping)
             }
-            Command::Reset(crate_number) => Ok(Done::Reset(crate_number)),
+            Command::Reset(crate_number) => {
+                // The crate has lost its settings: a start needs a new write (02, b).
+                self.fresh = false;
+                Ok(Done::Reset(crate_number))
+            }
         }
     }
 
@@ -398,6 +403,38 @@ mod tests {
     const STOP: [u16; 5] = [0x40, 8, 0, 0, 0];
     const PING: [u16; 5] = [0x40, 0x10, 0, 0, 0];
 
+    fn reset_words(crate_number: u8) -> [u16; 5] {
+        [0x40, 0x20, 1 << crate_number, 0, 0]
+    }
+
+    /// Lets the boards time out until no pass is under way.
+    fn run_out(board: &mut Board) {
+        for crate_number in 0..4 {
+            while board.time_up(crate_number).is_ok() {}
+        }
+    }
+
+    /// A fresh, idle board with words, a time, a list, records and frame numbers
+    /// that are not zero.
+    fn used_board() -> Board {
+        let mut board = Board::power_up(1, 2).unwrap();
+        board.obey(&PING).unwrap();
+        for crate_number in 0..4 {
+            while board.outstanding_frame(crate_number).is_ok() {
+                let reply = good(&board, crate_number);
+                board.reply(crate_number, &reply).unwrap();
+            }
+        }
+        let words = write_words(|block| {
+            block.fill(5);
+            block[0x1B0..].copy_from_slice(&[1, 2, 0, 8]);
+        });
+        board.obey(&words).unwrap();
+        run_out(&mut board);
+        board.clock(9);
+        board
+    }
+
     #[test]
     fn silent_board_gets_three_frames() {
         let mut board = Board::power_up(1, 2).unwrap();
@@ -527,6 +564,81 @@ mod tests {
         for crate_number in 0..4 {
             board.failure_message(crate_number, &mut message).unwrap();
             assert_eq!(message[13], 16 * crate_number as u16 + 4);
+        }
+    }
+
+    #[test]
+    fn reset_clears_fresh_and_nothing_else() {
+        for crate_number in 0..4 {
+            let mut board = used_board();
+            let before = board.clone();
+            assert!(before.fresh && before.timestamp == 9 && before.list[0] == 40);
+            assert_eq!(before.failures.iter().flatten().count(), 3);
+            assert_eq!([0, 1, 2, 3].map(|c| before.frames_sent(c)), [Ok(3), Ok(3), Ok(0), Ok(3)]);
+            let done = Done::Reset(crate_number);
+            assert_eq!(board.obey(&reset_words(crate_number)), Ok((done, 5)));
+            assert_eq!(board, Board { fresh: false, ..before.clone() });
+            let mut out = [0; 447];
+            board.static_block(&mut out).unwrap();
+            assert_eq!(&out[11..], before.block());
+            let refused = CommandRefused { refusal: Refusal::NotFresh, used: 5 };
+            assert_eq!(board.obey(&START), Err(refused));
+            assert_eq!(board.obey(&reset_words(crate_number)), Ok((done, 5)));
+            assert_eq!(board, Board { fresh: false, ..before });
+            board.obey(&write_words(|_| ())).unwrap();
+            assert_eq!(board.obey(&START), Ok((Done::Start, 5)));
+        }
+    }
+
+    #[test]
+    fn reset_of_a_board_that_is_not_fresh_changes_nothing() {
+        let mut never_written = Board::power_up(1, 2).unwrap();
+        never_written.clock(5);
+        let mut after_a_run = used_board();
+        after_a_run.obey(&START).unwrap();
+        after_a_run.obey(&STOP).unwrap();
+        for mut board in [never_written, after_a_run] {
+            let before = board.clone();
+            assert_eq!(board.obey(&reset_words(1)), Ok((Done::Reset(1), 5)));
+            assert_eq!(board, before);
+            assert_eq!(board.obey(&START).unwrap_err().refusal, Refusal::NotFresh);
+        }
+    }
+
+    #[test]
+    fn refused_reset_leaves_fresh() {
+        // In the pass of the write that set fresh, then in a ping.
+        let mut board = Board::power_up(1, 2).unwrap();
+        board.obey(&write_words(|block| block[0x1B1] = 1)).unwrap();
+        let refused = CommandRefused { refusal: Refusal::NotInThisState, used: 5 };
+        for pass in [Mode::Reprogramming, Mode::Ping] {
+            assert_eq!(board.mode(), pass);
+            for crate_number in 0..4 {
+                let before = board.clone();
+                assert_eq!(board.obey(&reset_words(crate_number)), Err(refused));
+                assert_eq!(board, before);
+            }
+            run_out(&mut board);
+            assert_eq!(board.mode(), Mode::Idle);
+            let mut started = board.clone();
+            assert_eq!(started.obey(&START), Ok((Done::Start, 5)));
+            let running = started.clone();
+            assert_eq!(started.obey(&reset_words(1)), Err(refused));
+            assert_eq!(started, running);
+            board.obey(&PING).unwrap();
+        }
+        // Idle and fresh: no such crate, a spare word set, a word missing.
+        let board = used_board();
+        for (words, refusal) in [
+            (&[0x40, 0x20, 3, 0, 0][..], Refusal::UnknownParameter),
+            (&[0x40, 0x20, 2, 0, 1], Refusal::SpareWordNotZero),
+            (&[0x40, 0x20, 2, 1, 0], Refusal::SpareWordNotZero),
+            (&[0x40, 0x20, 2, 0], Refusal::FewerThanFiveWords),
+        ] {
+            let mut reset = board.clone();
+            assert_eq!(reset.obey(words), Err(CommandRefused { refusal, used: 0 }));
+            assert_eq!(reset, board);
+            assert_eq!(reset.obey(&START), Ok((Done::Start, 5)));
         }
     }
 

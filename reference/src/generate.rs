@@ -429,14 +429,15 @@ pub struct Generated {
 /// Script `number` of the series with this seed.
 pub fn script(seed: u64, number: usize) -> Generated {
     let mut random = Random::new(seed ^ (number as u64 + 1).wrapping_mul(0xD134_2543_DE82_EF95));
-    let group = number / 9;
-    let (family, index, make): (_, _, fn(&mut Random, usize) -> Vec<u8>) = match number % 9 {
+    let group = number / 10;
+    let (family, index, make): (_, _, fn(&mut Random, usize) -> Vec<u8>) = match number % 10 {
         0 => ("lengths", group, lengths),
         1 => ("damaged", group, damaged),
         2 => ("bounds", group, bounds),
-        3 | 4 => ("sessions", 2 * group + number % 9 - 3, sessions),
-        5 | 6 => ("passes", 2 * group + number % 9 - 5, passes),
+        3 | 4 => ("sessions", 2 * group + number % 10 - 3, sessions),
+        5 | 6 => ("passes", 2 * group + number % 10 - 5, passes),
         7 => ("runs", group, runs),
+        8 => ("resets", group, resets),
         _ => ("far end", group, far_end::scripts),
     };
     Generated { family, index, text: make(&mut random, index) }
@@ -446,7 +447,7 @@ pub fn script(seed: u64, number: usize) -> Generated {
 fn enter_some_state(random: &mut Random, script: &mut Script) {
     script.push(&power_up_line(random.number() % ID_LIMIT, random.word()));
     let mut block = quiet_block(random);
-    match random.below(5) {
+    match random.below(6) {
         0 => {}
         1 => {
             block[ACTIVE..].fill(0);
@@ -460,6 +461,11 @@ fn enter_some_state(random: &mut Random, script: &mut Script) {
         3 => {
             block[ACTIVE] = 0x0201;
             script.command(&Command::Write(&block));
+        }
+        4 => {
+            block[ACTIVE..].fill(0);
+            script.command(&Command::Write(&block));
+            script.command(&Command::Reset(random.below(CRATES) as u8));
         }
         _ => script.command(&Command::Ping),
     }
@@ -866,24 +872,26 @@ fn session_block(random: &mut Random) -> [u16; configuration::WORDS] {
 /// A valid command that suits the state in most cases.
 fn suited_command<'a>(random: &mut Random, board: &Board, block: &'a [u16]) -> Command<'a> {
     let weights = match board.mode() {
-        Mode::Idle if board.fresh() => [4, 8, 40, 3, 8, 4],
-        Mode::Idle => [4, 40, 12, 3, 10, 4],
-        Mode::Running(_) => [4, 3, 3, 20, 3, 3],
-        _ => [4, 4, 4, 4, 4, 4],
+        Mode::Idle if board.fresh() => [4, 8, 40, 3, 8, 12],
+        Mode::Idle => [4, 40, 12, 3, 10, 10],
+        Mode::Running(_) => [4, 3, 3, 20, 3, 8],
+        _ => [4, 4, 4, 4, 4, 8],
     };
     match random.weighted(&weights) {
         0 => Command::Read(random.choose(&[ReadBlock::Static, ReadBlock::Dynamic])),
         1 => Command::Write(block),
-        2 => {
-            let few = 1 + random.below(12) as u32;
-            // A low word that is zero or small under a high word that counts.
-            let events = random.choose(&[few, few, few, few << 16, 1 << 16 | few, u32::MAX]);
-            Command::Start(random.choose(&[Events::Endless, Events::Counted(events)]))
-        }
+        2 => some_start(random),
         3 => Command::Stop,
         4 => Command::Ping,
         _ => Command::Reset(random.below(CRATES) as u8),
     }
+}
+
+fn some_start(random: &mut Random) -> Command<'static> {
+    let few = 1 + random.below(12) as u32;
+    // A low word that is zero or small under a high word that counts.
+    let events = random.choose(&[few, few, few, few << 16, 1 << 16 | few, u32::MAX]);
+    Command::Start(random.choose(&[Events::Endless, Events::Counted(events)]))
 }
 
 /// A command, now and then with a wrong word.
@@ -1102,14 +1110,124 @@ fn run_line(random: &mut Random, script: &mut Script, measurements: &[u8]) {
     }
 }
 
+/// Crate resets in every state and before starts (02, b).
+fn resets(random: &mut Random, _index: usize) -> Vec<u8> {
+    let mut script = Script::new();
+    script.push(&power_up_line(random.number() % ID_LIMIT, random.word()));
+    reset_lines(random, &mut script);
+    script.command(&some_start(random));
+    for _ in 0..1 + random.below(4) {
+        if random.chance(20) {
+            script.command(&Command::Ping);
+            pass_with_resets(random, &mut script);
+        }
+        write_with_resets(random, &mut script);
+        if random.chance(20) {
+            script.command(&Command::Ping);
+            pass_with_resets(random, &mut script);
+        }
+        if random.chance(75) {
+            reset_lines(random, &mut script);
+        }
+        script.command(&some_start(random));
+        // Refused: the block still reads back, and a start needs a new write.
+        if script.mode() == Mode::Idle {
+            if random.chance(80) {
+                script.push(b"S");
+                far_end::read_back(random, &mut script, b'S');
+            }
+            write_with_resets(random, &mut script);
+            script.command(&some_start(random));
+        }
+        run_with_resets(random, &mut script);
+    }
+    script.text
+}
+
+/// A crate reset, now and then with a wrong word, and mostly a line that shows
+/// something else of the state, or a clock step; one to three times.
+fn reset_lines(random: &mut Random, script: &mut Script) {
+    for _ in 0..random.choose(&[1, 1, 2, 3]) {
+        let line = reset_line(random);
+        script.push_styled(random, &line);
+        if random.chance(60) {
+            let line = match random.below(7) {
+                0 => b"S".to_vec(),
+                1 => b"L".to_vec(),
+                2 => bytes_line(b'M', &[random.below(2) as u8]),
+                3 => bytes_line(b'N', &[random.below(CRATES) as u8]),
+                4 => bytes_line(b'F', &[random.below(CRATES) as u8]),
+                5 => words_line(b'D', &random_measurements(random)),
+                _ => clock_line(random),
+            };
+            script.push(&line);
+        }
+    }
+}
+
+/// A crate reset that is refused for its words in some 30 of 100 cases.
+fn reset_line(random: &mut Random) -> Vec<u8> {
+    let mut words = vec![commands::DELIMITER, 0x20, 1 << random.below(CRATES), 0, 0];
+    match random.below(20) {
+        0 | 1 => words[2] = random.choose(&[0, 3, 5, 6, 7, 10, 15, 16, 0x0102, 0x0200, 0x8000]),
+        2 | 3 => words[3 + random.below(2)] = random.choose(&[1, 0x0100, 0xFFFF]),
+        4 => words.truncate(random.below(5)),
+        5 => words[0] = random.choose(&[0x0041, 0x4000, 0, 0x0140]),
+        // Words of the next command.
+        6 => words.resize(6 + random.below(4), commands::DELIMITER),
+        _ => {}
+    }
+    words_line(b'C', &words)
+}
+
+/// A write with few active boards, and its pass.
+fn write_with_resets(random: &mut Random, script: &mut Script) {
+    script.command(&Command::Write(&quiet_block(random)));
+    pass_with_resets(random, script);
+}
+
+/// Serves a pass to its end, with crate resets between the replies.
+fn pass_with_resets(random: &mut Random, script: &mut Script) {
+    let good = random.choose(&[50, 90, 100]);
+    while script.in_pass() {
+        if random.chance(15) {
+            reset_lines(random, script);
+        }
+        pass_line(random, script, good);
+    }
+}
+
+/// A short run to its end, or stopped, with crate resets in it and after it.
+fn run_with_resets(random: &mut Random, script: &mut Script) {
+    for _ in 0..random.below(15) {
+        if random.chance(30) {
+            reset_lines(random, script);
+        }
+        let line = trigger_line(random);
+        script.push(&line);
+    }
+    script.command(&Command::Stop);
+    if random.chance(60) {
+        reset_lines(random, script);
+    }
+    if random.chance(60) {
+        script.command(&some_start(random));
+    }
+}
+
 /// Serves a pass, if one is under way, to its end: the reply is good in `good`
 /// of 100 cases.
 fn serve_pass(random: &mut Random, script: &mut Script, good: usize) {
     while script.in_pass() {
-        let crate_number = busy_crate(random, script.board());
-        let item = item(random, script.board(), crate_number, good);
-        script.push(&item.line());
+        pass_line(random, script, good);
     }
+}
+
+/// One reply or time-up of a pass.
+fn pass_line(random: &mut Random, script: &mut Script, good: usize) {
+    let crate_number = busy_crate(random, script.board());
+    let item = item(random, script.board(), crate_number, good);
+    script.push(&item.line());
 }
 
 /// A pass for demand 3: the lines before it, its items in a mixed order, and
@@ -1127,8 +1245,8 @@ pub fn pass(seed: u64, number: usize) -> Pass {
     let mut script = Script::new();
     script.push(&power_up_line(random.number() % ID_LIMIT, random.word()));
     script.push(&clock_line(random));
-    // Before a write, a ping leaves a list; before a ping, a write leaves flags
-    // and records.
+    // Before a write, a ping leaves a list; before a ping, a write leaves flags,
+    // records and, where no crate reset comes between, fresh.
     let ping = random.chance(50);
     if random.chance(60) {
         if ping {
@@ -1137,6 +1255,9 @@ pub fn pass(seed: u64, number: usize) -> Pass {
             script.command(&Command::Ping);
         }
         serve_pass(random, &mut script, 80);
+        if random.chance(50) {
+            script.command(&Command::Reset(random.below(CRATES) as u8));
+        }
     }
     if ping {
         script.command(&Command::Ping);

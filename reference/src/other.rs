@@ -6,6 +6,7 @@ use std::process::{Command, ExitStatus, Stdio};
 use std::sync::atomic::{AtomicUsize, Ordering};
 use std::sync::Mutex;
 
+use crate::board::Mode;
 use crate::replay::Replay;
 
 /// Processes of the other program at once.
@@ -117,18 +118,26 @@ pub fn lines(text: &[u8]) -> Vec<&[u8]> {
     lines
 }
 
-/// What the model prints on this script, and for each printed line the number
-/// of the script's line, from 0.
-pub fn model(script: &[u8]) -> (Vec<u8>, Vec<usize>) {
+/// A line of the script that printed something: its number, from 0, and the
+/// state of the model's board before it.
+pub struct Served {
+    pub number: usize,
+    pub mode: Mode,
+    pub fresh: bool,
+}
+
+/// What the model prints on this script, and the line of each printed one.
+pub fn model(script: &[u8]) -> (Vec<u8>, Vec<Served>) {
     let mut replay = Replay::new();
     let mut printed = Vec::new();
-    let mut numbers = Vec::new();
+    let mut served = Vec::new();
     for (number, line) in lines(script).into_iter().enumerate() {
+        let (mode, fresh) = (replay.board().mode(), replay.board().fresh());
         if replay.line(line, &mut printed) {
-            numbers.push(number);
+            served.push(Served { number, mode, fresh });
         }
     }
-    (printed, numbers)
+    (printed, served)
 }
 
 /// A line for a report: readable characters, and not too many.

@@ -8,7 +8,7 @@ use Rattle.commands.specs.declared.Command.{Command}
 use Rattle.commands.specs.declared.Command.the-variants.{Read, Write, Start, Stop, Ping, CrateReset}
 use Rattle.command_reader.specs.Reading.{commandAnswer, usedOf, blockOf}
 use Rattle.acceptance.specs.Acceptance.{answerMeaning, decided}
-use Rattle.run.specs.Run.{started, stopped, refreshed, triggerAnswer, afterAnswer, clockedRun, Gives}
+use Rattle.run.specs.Run.{started, stopped, refreshed, afterCrateReset, triggerAnswer, afterAnswer, clockedRun, Gives}
 use Rattle.crate_pass.specs.declared.PassKind.{PassKind}
 use Rattle.crate_pass.specs.declared.PassKind.the-variants.{Reprogramming}
 use Rattle.four_crates.specs.FourCrates.{begunAll}
@@ -47,14 +47,14 @@ pinged β =
       crates = begunAll PassKind.Ping (activeWords (β .block)) (β .crates);
     }
 
--- "A read or a crate reset changes no state"
+-- "A read .. changes no state and tells the caller what to do". 02, b: "an accepted crate reset clears fresh", and nothing else
 abbrev pub carriedOut : Board → List ℕ → Command → Board
 carriedOut β block (Read kind) = β
 carriedOut β block Write = written β block
 carriedOut β block (Start run) = withRun β (started run)
 carriedOut β block Stop = withRun β (stopped (β .run))
 carriedOut β block Ping = pinged β
-carriedOut β block (CrateReset c) = β
+carriedOut β block (CrateReset c) = withRun β (afterCrateReset (β .run))
 
 -- the board after a command that got the answer: "No refusal changes the state"
 abbrev pub afterCommand : Board → List ℕ → Answer Command → Board

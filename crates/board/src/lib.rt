@@ -264,7 +264,7 @@ impl Board {
         }
     }
 
-    // Does what an obeyed command says, whose block is given. A read, a crate reset and a refusal change nothing.
+    // Does what an obeyed command says, whose block is given. A read and a refusal change nothing.
     fn carry_out(mut self, answer: CommandAnswer, block: &[u16]) -> Board
         requires { ⌜ (answerMeaning answer ≡ given Write → length (now block) ≡ 436) ⌝ }
         ensures { λ r. ⌜ r ≡ afterCommand self (now (block .entry)) (answerMeaning answer) ⌝ }
@@ -276,7 +276,7 @@ impl Board {
                 Command::Read(_) => {}
                 Command::Start(length) => self.run = run.start(length),
                 Command::Stop => self.run = run.stop(),
-                Command::CrateReset(_) => {}
+                Command::CrateReset(_) => self.run = run.crate_reset(),
                 Command::Write | Command::Ping => self = self.begin(c.is_write(), block),
             },
         }

@@ -43,7 +43,7 @@ call-keeps β (trigger fields out) free = refl
 call-keeps β (reply c bytes) free = replied-block β c _
 call-keeps β (timeUp c) free = replied-block β c _
 
-calls-keep : (β : Board) (xs : List Call) → noWrite β xs ≡ true → afterAll β xs .block ≡ β .block
+pub calls-keep : (β : Board) (xs : List Call) → noWrite β xs ≡ true → afterAll β xs .block ≡ β .block
 calls-keep β [] e = refl
 calls-keep β (x ∷ xs) e =
     let first = none-first isWrite β x xs e in

@@ -11,3 +11,4 @@ pub mod Kept
 pub mod RunNumbers
 pub mod PassStays
 pub mod ListStays
+pub mod Fresh

@@ -19,7 +19,7 @@ use Rattle.steps.specs.declared.Judged.{Judged}
 use Rattle.steps.proofs.PingReply.{ping-below}
 use Rattle.run.specs.Run.{isRunning}
 use Rattle.run.specs.Invariant.{RunInvariant}
-use Rattle.run.proofs.Invariant.{sound-refreshed}
+use Rattle.run.proofs.Invariant.{sound-fresh}
 use Rattle.crate_pass.specs.Crate.{isDone, crateAfter}
 use Rattle.crate_pass.specs.Invariant.{CrateInvariant}
 use Rattle.crate_pass.specs.declared.PassKind.{PassKind}
@@ -94,7 +94,7 @@ holds-write β w e h =
     let k = h .reaches in
     holds-begun β (written β (blockOf w)) h refl (begun-write β w e)
     (record {
-      run = sound-refreshed (β .run) (k .run);
+      run = sound-fresh (β .run) true (k .run);
       length-block = block-length β w e;
       within = block-within β w e;
       active = k .active;

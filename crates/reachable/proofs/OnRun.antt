@@ -1,4 +1,4 @@
--- Clock steps, triggers, starts and stops change the run alone, and keep what holds.
+-- Clock steps, triggers, starts, stops and crate resets change the run alone, and keep what holds.
 -- Assumes nothing.
 use Prim.Native.Nat.{ℕ}
 use mathlib.Core.Path.{_≡_, refl, sym, subst}
@@ -8,10 +8,10 @@ use Rattle.refusals.specs.Tables.{Answer, given, refused}
 use Rattle.packets.specs.declared.Fields.{Fields}
 use Rattle.commands.specs.declared.Command.the-variants.{Start}
 use Rattle.commands.specs.declared.RunLength.{RunLength}
-use Rattle.run.specs.Run.{isRunning, started, stopped, clockedRun, triggerAnswer, afterTrigger, afterAnswer}
+use Rattle.run.specs.Run.{isRunning, started, stopped, afterCrateReset, clockedRun, triggerAnswer, afterTrigger, afterAnswer}
 use Rattle.run.specs.Invariant.{RunInvariant}
 use Rattle.run.specs.declared.Run.{Run}
-use Rattle.run.proofs.Invariant.{sound-started, sound-stopped, sound-clocked, sound-triggered}
+use Rattle.run.proofs.Invariant.{sound-started, sound-stopped, sound-fresh, sound-clocked, sound-triggered}
 use Rattle.four_crates.specs.FourCrates.{inPass}
 use Rattle.board.specs.State.{withRun, statusOf}
 use Rattle.board.specs.Commands.{boardAnswer, afterTriggerOn}
@@ -87,3 +87,8 @@ holds-start β w l e h =
 
 pub holds-stop : (β : Board) → Holds β → Holds (withRun β (stopped (β .run)))
 holds-stop β h = holds-run β (stopped (β .run)) h (sound-stopped (β .run)) refl
+
+-- ---- crate resets
+
+pub holds-reset : (β : Board) → Holds β → Holds (withRun β (afterCrateReset (β .run)))
+holds-reset β h = holds-run β (afterCrateReset (β .run)) h (sound-fresh (β .run) false (h .reaches .run)) (h .reaches .apart)

@@ -15,7 +15,8 @@ use Rattle.commands.specs.declared.Command.{Command}
 use Rattle.commands.specs.declared.Command.the-variants.{Read, Write, Start, Stop, Ping, CrateReset}
 use Rattle.commands.specs.declared.RunLength.{RunLength}
 use Rattle.commands.specs.declared.RunLength.the-variants.{Endless, Counted}
-use Rattle.run.specs.Run.{isRunning, takesEvents, runningFor, clockedRun, triggerNumber, triggerAnswer, isLast, afterTrigger, afterAnswer}
+use Rattle.run.specs.Run.{isRunning, takesEvents, runningFor, afterCrateReset, clockedRun}
+use Rattle.run.specs.Run.{triggerNumber, triggerAnswer, isLast, afterTrigger, afterAnswer}
 use Rattle.run.specs.declared.Running.{Running}
 use Rattle.run.specs.declared.Running.the-variants.{Stopped}
 use Rattle.run.specs.declared.Run.{Run}
@@ -91,13 +92,13 @@ next-trigger l m r f out g = go (triggerAnswer r f out) (accepted-running r f ou
 
 going-command : (l : RunLength) (m : ℕ) (β : Board) (block : List ℕ) (a : Answer Command) → isStartOrStop a ≡ false → Going l m (β .run)
     → Going l m (afterCommand β block a .run)
-unfolding written pinged
+unfolding withRun written pinged
 going-command l m β block (given (Read kind)) e g = g
 going-command l m β block (given Write) e g = kept l m (β .run) (written β block .run) refl refl g
 going-command l m β block (given (Start run)) e g = false≢true (sym e)
 going-command l m β block (given Stop) e g = false≢true (sym e)
 going-command l m β block (given Ping) e g = g
-going-command l m β block (given (CrateReset c)) e g = g
+going-command l m β block (given (CrateReset c)) e g = kept l m (β .run) (afterCrateReset (β .run)) refl refl g
 going-command l m β block (refused n p) e g = g
 
 next-call : (l : RunLength) (m : ℕ) (β : Board) (x : Call) → Free isStartOrStop β x → Going l m (β .run) → Next l m (numberOf β x) (afterCall β x .run)

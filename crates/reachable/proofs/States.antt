@@ -14,7 +14,7 @@ use Rattle.any_order.specs.Steps.{Event}
 use Rattle.reachable.specs.Calls.{Call, command, clockStep, trigger, reply, timeUp, afterCall, afterAll}
 use Rattle.reachable.specs.Reachable.{Reachable}
 use Rattle.reachable.proofs.Holding.{Holds, holds-reachable, holds-power-up}
-use Rattle.reachable.proofs.OnRun.{holds-clock, holds-trigger, holds-start, holds-stop}
+use Rattle.reachable.proofs.OnRun.{holds-clock, holds-trigger, holds-start, holds-stop, holds-reset}
 use Rattle.reachable.proofs.OnPasses.{holds-write, holds-ping, holds-event}
 
 pub holds-command : (β : Board) (w : List ℕ) → Holds β → Holds (boardAfter β w)
@@ -26,7 +26,7 @@ holds-command β w h = go (boardAnswer β w) refl
     go (given (Start run)) e = rw e (holds-start β w run e h)
     go (given Stop) e = rw e (holds-stop β h)
     go (given Ping) e = rw e (holds-ping β w e h)
-    go (given (CrateReset c)) e = rw e h
+    go (given (CrateReset c)) e = rw e (holds-reset β h)
     go (refused n p) e = rw e h
 
 -- ---- all calls

@@ -50,6 +50,15 @@ startOrStop Stop = true
 startOrStop Ping = false
 startOrStop (CrateReset c) = false
 
+-- "A start clears fresh", and by 02, b, so does a crate reset
+abbrev pub startOrReset : Command → Bool
+startOrReset (Read kind) = false
+startOrReset Write = false
+startOrReset (Start run) = true
+startOrReset Stop = false
+startOrReset Ping = false
+startOrReset (CrateReset c) = true
+
 -- the commands that begin a pass
 abbrev pub beginsPass : Command → Bool
 beginsPass c = commands.isWrite c || ping c
@@ -71,6 +80,9 @@ isWriteOrPing a = accepted beginsPass a
 abbrev pub isStartOrStop : Answer Command → Bool
 isStartOrStop a = accepted startOrStop a
 
+abbrev pub isStartOrReset : Answer Command → Bool
+isStartOrReset a = accepted startOrReset a
+
 -- whether no call among these is a command that gets such an answer
 abbrev pub noneGets : (Answer Command → Bool) → Board → List Call → Bool
 noneGets such β [] = true
@@ -91,3 +103,6 @@ noWriteOrPing β xs = noneGets isWriteOrPing β xs
 
 abbrev pub noStartOrStop : Board → List Call → Bool
 noStartOrStop β xs = noneGets isStartOrStop β xs
+
+abbrev pub noStartOrReset : Board → List Call → Bool
+noStartOrReset β xs = noneGets isStartOrReset β xs

@@ -3,3 +3,4 @@ pub mod Calls
 pub mod Reachable
 pub mod Numbering
 pub mod Stays
+pub mod Fresh

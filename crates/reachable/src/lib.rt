@@ -1,1 +1,1 @@
-// The states that a board reaches from power-up, and what holds in each of them. Theorems only.
+// The states that a board reaches from power-up, what holds in each of them, and what holds through any calls. Theorems only.

@@ -1,4 +1,4 @@
--- A run is sound at power-up, and after a start, a stop, a write, a clock step and a trigger.
+-- A run is sound at power-up, and after a start, a stop, a write, a crate reset, a clock step and a trigger.
 -- Assumes nothing.
 use Prim.Native.Nat.{ℕ, _<_, _^_}
 use mathlib.Core.Path.{_≡_, refl, sym, ap, _∙_}
@@ -12,7 +12,7 @@ use Rattle.commands.specs.declared.Command.the-variants.{Start}
 use Rattle.commands.specs.declared.RunLength.{RunLength}
 use Rattle.commands.specs.declared.RunLength.the-variants.{Endless, Counted}
 use Rattle.packets.specs.declared.Fields.{Fields}
-use Rattle.run.specs.Run.{takesEvents, isRunning, zeroed, atPowerUp, started, stopped, refreshed, clocked, clockedRun}
+use Rattle.run.specs.Run.{takesEvents, isRunning, zeroed, atPowerUp, started, stopped, withFresh, clocked, clockedRun}
 use Rattle.run.specs.Run.{triggerNumber, triggerAnswer, isLast, counted, afterTrigger, afterAnswer}
 use Rattle.run.specs.declared.Running.{Running}
 use Rattle.run.specs.declared.Running.the-variants.{Stopped}
@@ -51,10 +51,10 @@ pub sound-started : (l : RunLength) → noEvents (Start l) ≡ false → RunInva
 sound-started Endless e = sound-zeroed Running.Endless false (λ x q. absurd (let z : _≡_ {A = ℕ} 0 1 = cc in omega arith))
 sound-started (Counted x) e = sound-zeroed (Running.Counted x) false (λ y q. let n = eqb-false x 0 e in let s : x ≡ y = cc in omega arith)
 
--- ---- writes and clock steps
+-- ---- writes, crate resets and clock steps
 
-pub sound-refreshed : (r : Run) → RunInvariant r → RunInvariant (refreshed r)
-sound-refreshed r s =
+pub sound-fresh : (r : Run) (fresh : Bool) → RunInvariant r → RunInvariant (withFresh r fresh)
+sound-fresh r fresh s =
     record { timestamp = s .timestamp; on-time = s .on-time; counter = s .counter; zeroed = s .zeroed; together = s .together; fewer = s .fewer }
 
 -- the on-time of a board that is not running stays

@@ -1,4 +1,4 @@
--- 01, Command words, and Trigger packets: what starts, stops, clock steps and triggers make of the run.
+-- 01, Command words, and Trigger packets; 02, b: what starts, stops, writes, crate resets, clock steps and triggers make of the run.
 use Prim.Native.Nat.{ℕ, _+_, _%_, _^_}
 use mathlib.Core.Path.{_≡_}
 use mathlib.Core.Bool.{Bool, true, false, not, cond}
@@ -46,10 +46,18 @@ started l = zeroed (runningFor l) false
 abbrev pub stopped : Run → Run
 stopped r = zeroed Stopped (r .fresh)
 
+-- the same run, fresh or not
+abbrev pub withFresh : Run → Bool → Run
+withFresh r fresh =
+    record { running = r .running; fresh = fresh; «trigger_counter» = r .«trigger_counter»; timestamp = r .timestamp; «on_time» = r .«on_time» }
+
 -- "A write .. sets fresh"
 abbrev pub refreshed : Run → Run
-refreshed r =
-    record { running = r .running; fresh = true; «trigger_counter» = r .«trigger_counter»; timestamp = r .timestamp; «on_time» = r .«on_time» }
+refreshed r = withFresh r true
+
+-- 02, b: "an accepted crate reset clears fresh, so that a start needs a new write"
+abbrev pub afterCrateReset : Run → Run
+afterCrateReset r = withFresh r false
 
 -- "modulo 2^48"
 abbrev pub clocked : ℕ → ℕ → ℕ

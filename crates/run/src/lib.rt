@@ -1,7 +1,8 @@
 // The run: whether and how long the board takes events, its three counters, and whether the configuration is fresh.
 ghost use mathlib.Core.Path.{_≡_};
 ghost use Prim.Native.Nat.{_<_};
-ghost use Rattle.run.specs.Run.{isRunning, atPowerUp, started, stopped, refreshed, clocked, clockedRun, afterTrigger, Gives, Triggers};
+ghost use Rattle.run.specs.Run.{isRunning, atPowerUp, started, stopped, withFresh, refreshed, afterCrateReset, clocked, clockedRun};
+ghost use Rattle.run.specs.Run.{afterTrigger, Gives, Triggers};
 use commands::RunLength;
 use packets::Fields;
 use packets::Packet;
@@ -19,7 +20,7 @@ pub enum Running {
 
 pub struct Run {
     pub running: Running,
-    // Set by an accepted write, cleared by a start.
+    // Set by an accepted write, cleared by a start and by a crate reset.
     pub fresh: bool,
     pub trigger_counter: u32,
     // Of 48 bits both, in ticks.
@@ -65,18 +66,32 @@ impl Run {
         }
     }
 
-    // A write makes the configuration fresh.
-    pub fn refresh(self) -> Run
-        ensures { λ r. ⌜ r ≡ refreshed self ⌝ }
+    // The same run, fresh or not.
+    fn with_fresh(self, fresh: bool) -> Run
+        ensures { λ r. ⌜ r ≡ withFresh self fresh ⌝ }
     {
         let running = self.running;
         Run {
             running,
-            fresh: true,
+            fresh,
             trigger_counter: self.trigger_counter,
             timestamp: self.timestamp,
             on_time: self.on_time,
         }
+    }
+
+    // A write makes the configuration fresh.
+    pub fn refresh(self) -> Run
+        ensures { λ r. ⌜ r ≡ refreshed self ⌝ }
+    {
+        self.with_fresh(true)
+    }
+
+    // A crate that was reset has lost its settings, so the configuration is no longer fresh (02, b).
+    pub fn crate_reset(self) -> Run
+        ensures { λ r. ⌜ r ≡ afterCrateReset self ⌝ }
+    {
+        self.with_fresh(false)
     }
 
     // A start clears fresh and sets the three counters to zero.

@@ -1,12 +1,13 @@
 //! Runs another replay program and the model on the same generated scripts and
 //! compares every line: `compare PATH-TO-OTHER-REPLAY [SCRIPTS [SEED]]`.
 
-use std::collections::BTreeMap;
+use std::collections::{BTreeMap, BTreeSet};
 use std::process::ExitCode;
 use std::sync::Mutex;
 
+use reference::board::Mode;
 use reference::generate::{self, Generated};
-use reference::other::{self, shown};
+use reference::other::{self, shown, Served};
 use reference::replay::MAX_DIGITS;
 
 const SCRIPTS: usize = 4000;
@@ -96,7 +97,115 @@ const OTHER_FORMS: &[&str] = &[
     "Y ? half a word",
 ];
 
-/// The name of an answer to a line; all but `G 17` are in the three lists.
+/// Crate resets and starts by what came before them (02, b): these answers have
+/// such a name beside the one in the first list. A start after a reset and a
+/// write: the reset cleared fresh and the write set it. After reset 4, 5 or 9: a
+/// reset since the last accepted write was refused so, and the start accepted.
+const RESETS: &[&str] = &[
+    "C reset while fresh",
+    "C reset before any write",
+    "C reset after a run",
+    "C reset after a reset",
+    "C 9 reset while running",
+    "C 9 reset while reprogramming",
+    "C 9 reset while pinging",
+    "C 10 before any write",
+    "C 10 after a run",
+    "C 10 after a reset",
+    "C start after a reset and a write",
+    "C start after reset 4",
+    "C start after reset 5",
+    "C start after reset 9",
+];
+
+/// Every answer that must be seen.
+fn listed() -> Vec<&'static str> {
+    [REACHABLE, FAR_END, OTHER_FORMS, RESETS].concat()
+}
+
+/// What cleared fresh last, since power-up.
+#[derive(Clone, Copy, Default, PartialEq)]
+enum Cleared {
+    #[default]
+    Never,
+    ByRun,
+    ByReset,
+}
+
+impl Cleared {
+    /// In a name, where the board is not fresh.
+    fn name(self) -> &'static str {
+        match self {
+            Cleared::Never => "before any write",
+            Cleared::ByRun => "after a run",
+            Cleared::ByReset => "after a reset",
+        }
+    }
+}
+
+/// What the names of `RESETS` ask of the lines before.
+#[derive(Default)]
+struct Past {
+    cleared: Cleared,
+    /// The last accepted write came after a reset that had cleared fresh.
+    renewed: bool,
+    /// The refusals of resets since the last accepted write.
+    refused: BTreeSet<String>,
+}
+
+impl Past {
+    /// The names in `RESETS` of an answer, given by its own name, to a line that
+    /// found the board in this state. All lines of a script are given in turn.
+    fn names(&mut self, line: &[u8], name: &str, mode: Mode, fresh: bool) -> Vec<String> {
+        let mut names = Vec::new();
+        let state = if fresh { "while fresh" } else { self.cleared.name() };
+        match name {
+            "P 0" => *self = Past::default(),
+            "C 441 write" => {
+                self.renewed = !fresh && self.cleared == Cleared::ByReset;
+                self.refused.clear();
+            }
+            "C 5 start" | "C 7 start" => {
+                if self.renewed {
+                    names.push("C start after a reset and a write".to_string());
+                }
+                names.extend(self.refused.iter().map(|name| format!("C start after {name}")));
+                self.cleared = Cleared::ByRun;
+            }
+            "C 10" => names.push(format!("C 10 {state}")),
+            "C 4" | "C 5" | "C 9" if is_reset(line) => {
+                self.refused.insert(name.replace('C', "reset"));
+                if name == "C 9" {
+                    names.push(format!("C 9 reset while {}", mode_name(mode)));
+                }
+            }
+            _ if name.starts_with("C 5 reset") => {
+                names.push(format!("C reset {state}"));
+                if fresh {
+                    self.cleared = Cleared::ByReset;
+                }
+            }
+            _ => {}
+        }
+        names
+    }
+}
+
+fn mode_name(mode: Mode) -> &'static str {
+    match mode {
+        Mode::Idle => "idle",
+        Mode::Running(_) => "running",
+        Mode::Reprogramming => "reprogramming",
+        Mode::Ping => "pinging",
+    }
+}
+
+/// Whether a line of a command has the ID of a crate reset.
+fn is_reset(line: &[u8]) -> bool {
+    line[1..].iter().filter(|&&byte| byte != b' ').skip(4).take(4).eq(b"0020")
+}
+
+/// The name of an answer to a line; all but `G 17` are in the first three lists.
 fn name(line: &[u8], answer: &[u8]) -> String {
     let answer = String::from_utf8_lossy(answer);
     if answer == "?" {
@@ -154,12 +263,18 @@ fn other_form(line: &[u8]) -> Option<&'static str> {
 /// Compares a script's lines and gives how many there are, or the first
 /// difference; counts the model's answers.
 fn compare(program: &str, script: &[u8], seen: &Mutex<Seen>) -> Result<usize, String> {
-    let (printed, numbers) = other::model(script);
+    let (printed, served) = other::model(script);
     let script_lines = other::lines(script);
     let ours = other::lines(&printed);
     let mut names = Seen::new();
-    for (answer, &number) in ours.iter().zip(&numbers) {
-        *names.entry(name(script_lines[number], answer)).or_default() += 1;
+    let mut past = Past::default();
+    for (answer, &Served { number, mode, fresh }) in ours.iter().zip(&served) {
+        let line = script_lines[number];
+        let name = name(line, answer);
+        for name in past.names(line, &name, mode, fresh) {
+            *names.entry(name).or_default() += 1;
+        }
+        *names.entry(name).or_default() += 1;
     }
     {
         let mut seen = seen.lock().expect("no thread panicked");
@@ -179,7 +294,7 @@ fn compare(program: &str, script: &[u8], seen: &Mutex<Seen>) -> Result<usize, St
     let place = (0..ours.len().max(theirs.len()))
         .find(|&place| ours.get(place) != theirs.get(place))
         .ok_or("the last line feed differs")?;
-    let line = numbers.get(place).map(|&number| (number, script_lines[number]));
+    let line = served.get(place).map(|line| (line.number, script_lines[line.number]));
     Err(difference(line, ours.get(place).copied(), theirs.get(place).copied()))
 }
 
@@ -219,7 +334,7 @@ fn print_seen(seen: &Seen) {
 /// False, with a line that says which, if an answer in the lists was never seen
 /// or one was seen that is in none.
 fn check_seen(seen: &Seen) -> bool {
-    let listed = [REACHABLE, FAR_END, OTHER_FORMS].concat();
+    let listed = listed();
     let missing = listed.iter().copied().filter(|&name| !seen.contains_key(name)).collect();
     let unlisted = seen.keys().map(String::as_str).filter(|name| !listed.contains(name)).collect();
     let mut right = true;
@@ -291,9 +406,63 @@ mod tests {
         }
     }
 
+    /// The names in `RESETS` that a script's lines have, in turn.
+    fn reset_names(script: &str) -> Vec<String> {
+        let (printed, served) = other::model(script.as_bytes());
+        let lines = other::lines(script.as_bytes());
+        let mut past = Past::default();
+        let answers = other::lines(&printed);
+        let named = answers.iter().zip(&served).flat_map(|(answer, served)| {
+            let line = lines[served.number];
+            past.names(line, &name(line, answer), served.mode, served.fresh)
+        });
+        named.collect()
+    }
+
+    #[test]
+    fn names_of_resets_and_starts() {
+        let silent = format!("C00400002000100000000{}\n", "0000".repeat(436));
+        let active = format!("{}0001\n", &silent[..silent.len() - 5]);
+        let (reset, start) = ("C0040 0020 0002 0000 0000\n", "C0040 0004 0001 0000 0000\n");
+        let (stop, ping) = ("C0040 0008 0000 0000 0000\n", "C0040 0010 0000 0000 0000\n");
+        let (other_crate, spare) = ("C0040 0020 0003 0000 0000\n", "C0040 0020 0001 0000 0001\n");
+        let write: &str = &silent;
+        let after_both = "C start after a reset and a write";
+        for (lines, expected) in [
+            (
+                &[reset, start, ping, reset][..],
+                &["C reset before any write", "C 10 before any write", "C 9 reset while pinging"][..],
+            ),
+            (
+                &[write, reset, reset, start, write, start],
+                &["C reset while fresh", "C reset after a reset", "C 10 after a reset", after_both],
+            ),
+            (
+                &[write, start, reset, stop, reset, start, write, start],
+                &["C 9 reset while running", "C reset after a run", "C 10 after a run"],
+            ),
+            (
+                &[&active, reset, "T03\nT03\nT03\n", start],
+                &["C 9 reset while reprogramming", "C start after reset 9"],
+            ),
+            (
+                &[write, spare, other_crate, start],
+                &["C start after reset 4", "C start after reset 5"],
+            ),
+            // Starts without a name.
+            (&[reset, write, start], &["C reset before any write"]),
+            (&[write, spare, write, start], &[]),
+            (&[write, reset, write, write, start], &["C reset while fresh"]),
+            (&[write, reset, "P0000000000000000 0000\n", write, start], &["C reset while fresh"]),
+            (&["C0040 0020\n", write, "C0040 0003 0020 0000 0000\n", start], &[]),
+        ] {
+            assert_eq!(reset_names(&lines.concat()), expected);
+        }
+    }
+
     #[test]
     fn answers_are_those_listed() {
-        let listed = [REACHABLE, FAR_END, OTHER_FORMS].concat();
+        let listed = listed();
         let seen: Seen = listed.iter().map(|name| (name.to_string(), 1)).collect();
         assert_eq!(seen.len(), listed.len());
         assert!(check_seen(&seen));
@@ -302,7 +471,7 @@ mod tests {
             fewer.remove(name);
             assert!(!check_seen(&fewer), "without {name}");
         }
-        for name in ["G 17", "W04 0 0", "Y03 8", "R again done"] {
+        for name in ["G 17", "W04 0 0", "Y03 8", "R again done", "C 10 while fresh"] {
             let mut more = seen.clone();
             more.insert(name.to_string(), 1);
             assert!(!check_seen(&more), "with {name}");

@@ -31,6 +31,9 @@ stop-requires c κs = search needs
 enum-told-4 : tie.Need-enum-told-4
 enum-told-4 c = search needs
 
+crate-reset-requires : tie.Need-crate-reset-requires
+crate-reset-requires c κs = search needs
+
 is-write-requires : tie.Need-is-write-requires
 is-write-requires c κs = search needs
 
@@ -73,11 +76,14 @@ returns-4 c =
     (c .before .enum-told3 .given .1) _ (ap (withRun (a .self)) (c .stop .ensures))
 
 returns-5 : tie.Need-returns-5
+unfolding withRun
 returns-5 c =
-    let told = c .before .before .before in
+    let reset = c .before in
+    let told = reset .before .before .before in
     let start = told .before .before .before .before in
     let a = start .args in
-    after-obeyed (a .self) (now (a .block)) (a .answer) _ _ (told .answer .given .1) (c .enum-told4 .given .1) _ refl
+    after-obeyed (a .self) (now (a .block)) (a .answer) _ _ (told .answer .given .1)
+    (reset .enum-told4 .given .1) _ (ap (withRun (a .self)) (c .crate-reset .ensures))
 
 returns-6 : tie.Need-returns-6
 returns-6 c =
@@ -99,6 +105,7 @@ carry-out-spec =
     enum-told-3
     stop-requires
     enum-told-4
+    crate-reset-requires
     is-write-requires
     begin-requires
     returns
