@@ -606,12 +606,15 @@ mod tests {
     }
 
     #[test]
-    fn refused_reset_leaves_fresh() {
+    fn reset_refused_in_its_state_leaves_fresh() {
         // In the pass of the write that set fresh, then in a ping.
         let mut board = Board::power_up(1, 2).unwrap();
         board.obey(&write_words(|block| block[0x1B1] = 1)).unwrap();
         let refused = CommandRefused { refusal: Refusal::NotInThisState, used: 5 };
         for pass in [Mode::Reprogramming, Mode::Ping] {
+            if pass == Mode::Ping {
+                board.obey(&PING).unwrap();
+            }
             assert_eq!(board.mode(), pass);
             for crate_number in 0..4 {
                 let before = board.clone();
@@ -625,12 +628,15 @@ mod tests {
             let running = started.clone();
             assert_eq!(started.obey(&reset_words(1)), Err(refused));
             assert_eq!(started, running);
-            board.obey(&PING).unwrap();
         }
-        // Idle and fresh: no such crate, a spare word set, a word missing.
+    }
+
+    #[test]
+    fn reset_refused_for_its_words_leaves_fresh() {
         let board = used_board();
         for (words, refusal) in [
-            (&[0x40, 0x20, 3, 0, 0][..], Refusal::UnknownParameter),
+            (&[0x41, 0x20, 2, 0, 0][..], Refusal::WrongDelimiter),
+            (&[0x40, 0x20, 3, 0, 0], Refusal::UnknownParameter),
             (&[0x40, 0x20, 2, 0, 1], Refusal::SpareWordNotZero),
             (&[0x40, 0x20, 2, 1, 0], Refusal::SpareWordNotZero),
             (&[0x40, 0x20, 2, 0], Refusal::FewerThanFiveWords),

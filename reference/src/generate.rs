@@ -14,6 +14,11 @@ use crate::{blocks, BOARDS, BOARDS_PER_CRATE, CRATES, ID_LIMIT};
 
 mod far_end;
 
+/// Scripts compared where no other number is asked for.
+pub const SCRIPTS: usize = 4000;
+/// Scripts of a group: two sessions, two passes and one of each other family.
+const GROUP: usize = 10;
+
 /// The splitmix64 random number generator.
 pub struct Random(u64);
 
@@ -85,11 +90,17 @@ fn reply_line(crate_number: u8, reply: &[u8]) -> Vec<u8> {
     line
 }
 
+/// The words of a command.
+fn command_words(command: &Command) -> Vec<u16> {
+    let mut words = vec![0; commands::HEAD + configuration::WORDS];
+    let used = commands::write(command, &mut words).expect("the command is valid");
+    words.truncate(used);
+    words
+}
+
 /// A line of a command.
 pub fn command_line(command: &Command) -> Vec<u8> {
-    let mut words = [0; commands::HEAD + configuration::WORDS];
-    let used = commands::write(command, &mut words).expect("the command is valid");
-    words_line(b'C', &words[..used])
+    words_line(b'C', &command_words(command))
 }
 
 /// A power-up line.
@@ -429,13 +440,13 @@ pub struct Generated {
 /// Script `number` of the series with this seed.
 pub fn script(seed: u64, number: usize) -> Generated {
     let mut random = Random::new(seed ^ (number as u64 + 1).wrapping_mul(0xD134_2543_DE82_EF95));
-    let group = number / 10;
-    let (family, index, make): (_, _, fn(&mut Random, usize) -> Vec<u8>) = match number % 10 {
+    let (group, place) = (number / GROUP, number % GROUP);
+    let (family, index, make): (_, _, fn(&mut Random, usize) -> Vec<u8>) = match place {
         0 => ("lengths", group, lengths),
         1 => ("damaged", group, damaged),
         2 => ("bounds", group, bounds),
-        3 | 4 => ("sessions", 2 * group + number % 10 - 3, sessions),
-        5 | 6 => ("passes", 2 * group + number % 10 - 5, passes),
+        3 | 4 => ("sessions", 2 * group + place - 3, sessions),
+        5 | 6 => ("passes", 2 * group + place - 5, passes),
         7 => ("runs", group, runs),
         8 => ("resets", group, resets),
         _ => ("far end", group, far_end::scripts),
@@ -887,6 +898,7 @@ fn suited_command<'a>(random: &mut Random, board: &Board, block: &'a [u16]) -> C
     }
 }
 
+/// A start, endless or counted; half of the counted ones take few events.
 fn some_start(random: &mut Random) -> Command<'static> {
     let few = 1 + random.below(12) as u32;
     // A low word that is zero or small under a high word that counts.
@@ -897,10 +909,8 @@ fn some_start(random: &mut Random) -> Command<'static> {
 /// A command, now and then with a wrong word.
 fn session_command(random: &mut Random, board: &Board) -> Vec<u8> {
     let block = session_block(random);
-    let command = suited_command(random, board, &block);
-    let mut words = vec![0; commands::HEAD + configuration::WORDS];
-    let used = commands::write(&command, &mut words).expect("the command is valid");
-    words.truncate(used);
+    let mut words = command_words(&suited_command(random, board, &block));
+    let used = words.len();
     if random.chance(25) {
         match random.below(9) {
             0 => words.truncate(random.below(used)),
@@ -1118,16 +1128,15 @@ fn resets(random: &mut Random, _index: usize) -> Vec<u8> {
     script.command(&some_start(random));
     for _ in 0..1 + random.below(4) {
         if random.chance(20) {
-            script.command(&Command::Ping);
-            pass_with_resets(random, &mut script);
+            ping_with_resets(random, &mut script);
         }
         write_with_resets(random, &mut script);
         if random.chance(20) {
-            script.command(&Command::Ping);
-            pass_with_resets(random, &mut script);
+            ping_with_resets(random, &mut script);
         }
         if random.chance(75) {
             reset_lines(random, &mut script);
+            no_accepted_write(random, &mut script);
         }
         script.command(&some_start(random));
         // Refused: the block still reads back, and a start needs a new write.
@@ -1175,9 +1184,44 @@ fn reset_line(random: &mut Random) -> Vec<u8> {
         5 => words[0] = random.choose(&[0x0041, 0x4000, 0, 0x0140]),
         // Words of the next command.
         6 => words.resize(6 + random.below(4), commands::DELIMITER),
+        // A whole next command, which is not obeyed: a ping would show that it
+        // was, and in a run a stop.
+        7 => {
+            let start = some_start(random);
+            let next = random.choose(&[start, Command::Ping, Command::Stop]);
+            words.extend(command_words(&next));
+        }
         _ => {}
     }
     words_line(b'C', &words)
+}
+
+/// Now and then a ping with its pass, or a refused write: a start after a reset
+/// still gets 10 (02, b: "no accepted write since").
+fn no_accepted_write(random: &mut Random, script: &mut Script) {
+    match random.below(6) {
+        0 => ping_with_resets(random, script),
+        1 => script.push(&refused_write_line(random)),
+        _ => {}
+    }
+}
+
+/// A write with one word above its bound, or with too few words.
+fn refused_write_line(random: &mut Random) -> Vec<u8> {
+    let mut words = command_words(&Command::Write(&quiet_block(random)));
+    if random.chance(50) {
+        let place = random.choose(&BOUNDED);
+        words[commands::HEAD + place] = random.choose(&[configuration::bound(place) + 1, 0xFFFF]);
+    } else {
+        words.truncate(commands::HEAD + random.below(configuration::WORDS));
+    }
+    words_line(b'C', &words)
+}
+
+/// A ping and its pass.
+fn ping_with_resets(random: &mut Random, script: &mut Script) {
+    script.command(&Command::Ping);
+    pass_with_resets(random, script);
 }
 
 /// A write with few active boards, and its pass.
@@ -1197,7 +1241,8 @@ fn pass_with_resets(random: &mut Random, script: &mut Script) {
     }
 }
 
-/// A short run to its end, or stopped, with crate resets in it and after it.
+/// A short run to its end, or stopped, with crate resets in it and after it, and
+/// mostly a start, which is refused, at the end.
 fn run_with_resets(random: &mut Random, script: &mut Script) {
     for _ in 0..random.below(15) {
         if random.chance(30) {

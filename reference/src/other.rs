@@ -126,7 +126,8 @@ pub struct Served {
     pub fresh: bool,
 }
 
-/// What the model prints on this script, and the line of each printed one.
+/// What the model prints on this script, and for each printed line the script's
+/// line.
 pub fn model(script: &[u8]) -> (Vec<u8>, Vec<Served>) {
     let mut replay = Replay::new();
     let mut printed = Vec::new();

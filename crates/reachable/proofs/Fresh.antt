@@ -4,7 +4,7 @@
 use Prim.Native.Nat.{ℕ}
 use mathlib.Core.Path.{_≡_, refl, sym, ap, _∙_, subst}
 use mathlib.Core.Bool.{Bool, true, false, cond}
-use mathlib.Core.List.{List, [], _∷_}
+use mathlib.Core.List.{List}
 use Rattle.refusals.specs.Tables.{Answer, given, refused}
 use Rattle.commands.specs.Commands as commands
 use Rattle.commands.specs.declared.Command.{Command}
@@ -21,7 +21,7 @@ use Rattle.board.specs.declared.Board.{Board}
 use Rattle.reachable.specs.Calls.{Call, command, clockStep, trigger, reply, timeUp, afterCall, afterAll}
 use Rattle.reachable.specs.Calls.{startOrReset, accepted, noneGets, noWrite, noStartOrReset}
 use Rattle.reachable.specs.Fresh.{StaticReadsBack, NeedsWrite, NeedsNoWrite}
-use Rattle.reachable.proofs.OneCall.{false≢true, Free, none-first, replied-run}
+use Rattle.reachable.proofs.OneCall.{false≢true, Free, kept-by-calls, replied-run}
 use Rattle.reachable.proofs.Kept.{calls-keep, block-kept}
 
 -- ---- fresh stays as it is, set or not, through calls among which no command is accepted that changes it
@@ -63,10 +63,7 @@ call-fresh b β (reply c bytes) free f = ap (λ (r : Run). r .fresh) (replied-ru
 call-fresh b β (timeUp c) free f = ap (λ (r : Run). r .fresh) (replied-run β c _) ∙ f
 
 calls-fresh : (b : Bool) (β : Board) (xs : List Call) → noneGets (accepted (changes b)) β xs ≡ true → β .run .fresh ≡ b → afterAll β xs .run .fresh ≡ b
-calls-fresh b β [] e f = f
-calls-fresh b β (x ∷ xs) e f =
-    let first = none-first (accepted (changes b)) β x xs e in
-    calls-fresh b (afterCall β x) xs (first .1) (call-fresh b β x (first .0) f)
+calls-fresh b β xs e f = kept-by-calls (accepted (changes b)) (λ (γ : Board). γ .run .fresh ≡ b) (call-fresh b) β xs e f
 
 -- ---- so a start gets 10, or is accepted
 

@@ -3,7 +3,7 @@
 use Prim.Native.Nat.{ℕ, _<_}
 use mathlib.Core.Path.{_≡_, refl, sym, _∙_, subst}
 use mathlib.Core.Bool.{true, false}
-use mathlib.Core.List.{List, [], _∷_}
+use mathlib.Core.List.{List}
 use lib.ListN.{take}
 use Rattle.refusals.specs.Tables.{Answer, given, refused}
 use Rattle.refusals.specs.declared.Written.the-variants.{Length}
@@ -22,7 +22,7 @@ use Rattle.reachable.specs.Reachable.{Reachable}
 use Rattle.reachable.proofs.Holding.{holds-reachable, holds-power-up}
 use Rattle.reachable.proofs.States.{holds-command, holds-all}
 use Rattle.reachable.proofs.ReadBack.{static-reads}
-use Rattle.reachable.proofs.OneCall.{false≢true, Free, none-first, replied-block}
+use Rattle.reachable.proofs.OneCall.{false≢true, Free, kept-by-calls, replied-block}
 use Rattle.reachable.proofs.Accepted.{written-block}
 
 command-keeps : (β : Board) (block : List ℕ) (a : Answer Command) → isWrite a ≡ false → afterCommand β block a .block ≡ β .block
@@ -44,10 +44,7 @@ call-keeps β (reply c bytes) free = replied-block β c _
 call-keeps β (timeUp c) free = replied-block β c _
 
 pub calls-keep : (β : Board) (xs : List Call) → noWrite β xs ≡ true → afterAll β xs .block ≡ β .block
-calls-keep β [] e = refl
-calls-keep β (x ∷ xs) e =
-    let first = none-first isWrite β x xs e in
-    calls-keep (afterCall β x) xs (first .1) ∙ call-keeps β x (first .0)
+calls-keep β xs e = kept-by-calls isWrite (λ (γ : Board). γ .block ≡ β .block) (λ γ x free k. call-keeps γ x free ∙ k) β xs e refl
 
 -- whatever else happens after an accepted write, its block is the one that is stored
 pub block-kept : (β : Board) (w : List ℕ) → boardAnswer β w ≡ given Write → (xs : List Call) → noWrite (boardAfter β w) xs ≡ true

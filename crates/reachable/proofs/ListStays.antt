@@ -4,7 +4,7 @@
 use Prim.Native.Nat.{ℕ, _<_}
 use mathlib.Core.Path.{_≡_, refl, sym, ap, _∙_, subst}
 use mathlib.Core.Bool.{Bool, true, false}
-use mathlib.Core.List.{List, [], _∷_, _++_}
+use mathlib.Core.List.{List, [], _++_}
 use mathlib.Core.Logic.{inl, inr}
 use native.Mathlib.Omega.{arith}
 use lib.Dec.{ltb}
@@ -36,7 +36,7 @@ use Rattle.any_order.specs.Steps.{Event}
 use Rattle.any_order.specs.AnyOrder.{wordOf}
 use Rattle.reachable.specs.Calls.{Call, command, clockStep, trigger, reply, timeUp, afterCall, afterAll, isPing, noPing}
 use Rattle.reachable.specs.Stays.{GivesList, listAtPowerUp, NoPingUnderWay}
-use Rattle.reachable.proofs.OneCall.{false≢true, Free, none-first}
+use Rattle.reachable.proofs.OneCall.{false≢true, Free, kept-by-calls}
 use Rattle.reachable.proofs.Holding.{Holds, holds-power-up}
 use Rattle.reachable.proofs.OnPasses.{judgedOn, next, at-set, replied-done}
 use Rattle.reachable.proofs.PassStays.{replied-same}
@@ -106,12 +106,14 @@ same-call β (trigger fields out) h free n = record { list = refl; still = n }
 same-call β (reply c bytes) h free n = same-event β c (Event.reply bytes) h n
 same-call β (timeUp c) h free n = same-event β c Event.timeUp h n
 
+one-more : (β γ : Board) (x : Call) → Free isPing γ x → Holds γ × Same β γ → Holds (afterCall γ x) × Same β (afterCall γ x)
+one-more β γ x free (h, s) =
+    let t = same-call γ x h free (s .still) in
+    (holds-kept γ x h, record { list = t .list ∙ s .list; still = t .still })
+
 same-calls : (β : Board) (xs : List Call) → Holds β → noPing β xs ≡ true → NoPingUnderWay β → listOf (afterAll β xs) ≡ listOf β
-same-calls β [] h e n = refl
-same-calls β (x ∷ xs) h e n =
-    let first = none-first isPing β x xs e in
-    let s = same-call β x h (first .0) n in
-    same-calls (afterCall β x) xs (holds-kept β x h) (first .1) (s .still) ∙ s .list
+same-calls β xs h e n =
+    kept-by-calls isPing (λ (γ : Board). Holds γ × Same β γ) (one-more β) β xs e (h, record { list = refl; still = n }) .1 .list
 
 -- ---- and so do many: from power-up, through any calls, to a state in which no ping is under way, and on through calls among which none is accepted
 

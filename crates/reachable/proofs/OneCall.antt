@@ -1,9 +1,9 @@
--- What one call leaves as it was, and what it is that none of some calls gets such an answer.
+-- What one call leaves as it was, and what calls keep among which none gets such an answer (`kept-by-calls`).
 -- Assumes nothing.
 use Prim.Native.Nat.{ℕ}
 use mathlib.Core.Path.{_≡_, refl, ap}
 use mathlib.Core.Bool.{Bool, true, false, not, _&&_}
-use mathlib.Core.List.{List, _∷_}
+use mathlib.Core.List.{List, [], _∷_}
 use native.Mathlib.Omega.{arith}
 use Rattle.refusals.specs.Tables.{Answer, given, refused}
 use Rattle.commands.specs.declared.Command.{Command}
@@ -13,7 +13,7 @@ use Rattle.board.specs.State.{withCrates}
 use Rattle.board.specs.Commands.{boardAnswer}
 use Rattle.board.specs.SlowControl.{replyAnswer, afterReply, boardReplied}
 use Rattle.board.specs.declared.Board.{Board}
-use Rattle.reachable.specs.Calls.{Call, command, clockStep, trigger, reply, timeUp, afterCall, noneGets}
+use Rattle.reachable.specs.Calls.{Call, command, clockStep, trigger, reply, timeUp, afterCall, afterAll, noneGets}
 
 pub false≢true : {A : Type 0} → false ≡ true → A
 false≢true e = absurd (let z : _≡_ {A = ℕ} 0 1 = cc in omega arith)
@@ -59,3 +59,11 @@ none-first such β (clockStep ticks) xs e = (tt, e)
 none-first such β (trigger fields out) xs e = (tt, e)
 none-first such β (reply c bytes) xs e = (tt, e)
 none-first such β (timeUp c) xs e = (tt, e)
+
+-- what each call keeps that gets no such answer, they keep together
+pub kept-by-calls : (such : Answer Command → Bool) (P : Board → Type 0) → ((β : Board) (x : Call) → Free such β x → P β → P (afterCall β x))
+    → (β : Board) (xs : List Call) → noneGets such β xs ≡ true → P β → P (afterAll β xs)
+kept-by-calls such P one β [] e p = p
+kept-by-calls such P one β (x ∷ xs) e p =
+    let first = none-first such β x xs e in
+    kept-by-calls such P one (afterCall β x) xs (first .1) (one β x (first .0) p)

@@ -3,7 +3,7 @@
 use Prim.Native.Nat.{ℕ, zero, suc, _<_}
 use mathlib.Core.Path.{_≡_, refl, sym, ap, _∙_, subst}
 use mathlib.Core.Bool.{Bool, true, false}
-use mathlib.Core.List.{List, [], _∷_}
+use mathlib.Core.List.{List, []}
 use native.Mathlib.Omega.{arith}
 use lib.Dec.{ltb}
 use borrow.Author.Tests.{ltb-true, ltb-false}
@@ -25,7 +25,7 @@ use Rattle.board.specs.declared.Board.{Board}
 use Rattle.board.proofs.Serving.{board-high}
 use Rattle.reachable.specs.Calls.{Call, command, clockStep, trigger, reply, timeUp, afterCall, afterAll, beginsPass, isWriteOrPing, noWriteOrPing}
 use Rattle.reachable.specs.Stays.{PassStays}
-use Rattle.reachable.proofs.OneCall.{false≢true, Free, none-first}
+use Rattle.reachable.proofs.OneCall.{false≢true, Free, kept-by-calls}
 use Rattle.reachable.proofs.OnPasses.{all-done, replied-done}
 
 -- ---- with no frame outstanding, a call that begins no pass changes the run alone
@@ -60,14 +60,18 @@ call-run β (trigger fields out) d free = refl
 call-run β (reply c bytes) d free = replied-run β c _ d
 call-run β (timeUp c) d free = replied-run β c _ d
 
-calls-run : (β : Board) (xs : List Call) → inPass (β .crates) ≡ false → noWriteOrPing β xs ≡ true → afterAll β xs ≡ withRun β (afterAll β xs .run)
+-- the second board is the first but for the run
+abbrev RunAlone : Board → Board → Type 0
+RunAlone β γ = γ ≡ withRun β (γ .run)
+
+one-more : (β : Board) → inPass (β .crates) ≡ false → (γ : Board) (x : Call) → Free isWriteOrPing γ x → RunAlone β γ → RunAlone β (afterCall γ x)
 unfolding withRun
-calls-run β [] d e = refl
-calls-run β (x ∷ xs) d e =
-    let first = none-first isWriteOrPing β x xs e in
-    let one = call-run β x d (first .0) in
-    calls-run (afterCall β x) xs (ap (λ (γ : Board). inPass (γ .crates)) one ∙ d) (first .1)
-    ∙ ap (λ (γ : Board). withRun γ (afterAll (afterCall β x) xs .run)) one
+one-more β d γ x free k =
+    call-run γ x (ap (λ (δ : Board). inPass (δ .crates)) k ∙ d) free ∙ ap (λ (δ : Board). withRun δ (afterCall γ x .run)) k
+
+calls-run : (β : Board) (xs : List Call) → inPass (β .crates) ≡ false → noWriteOrPing β xs ≡ true → RunAlone β (afterAll β xs)
+unfolding withRun
+calls-run β xs d e = kept-by-calls isWriteOrPing (RunAlone β) (one-more β d) β xs e refl
 
 -- ---- so what the last pass left stays
 

@@ -2,15 +2,15 @@
 //! compares every line: `compare PATH-TO-OTHER-REPLAY [SCRIPTS [SEED]]`.
 
 use std::collections::{BTreeMap, BTreeSet};
+use std::iter;
 use std::process::ExitCode;
 use std::sync::Mutex;
 
 use reference::board::Mode;
-use reference::generate::{self, Generated};
+use reference::generate::{self, Generated, SCRIPTS};
 use reference::other::{self, shown, Served};
 use reference::replay::MAX_DIGITS;
 
-const SCRIPTS: usize = 4000;
 const SEED: u64 = 1;
 
 /// How often each answer was seen, by its name.
@@ -98,9 +98,9 @@ const OTHER_FORMS: &[&str] = &[
 ];
 
 /// Crate resets and starts by what came before them (02, b): these answers have
-/// such a name beside the one in the first list. A start after a reset and a
-/// write: the reset cleared fresh and the write set it. After reset 4, 5 or 9: a
-/// reset since the last accepted write was refused so, and the start accepted.
+/// such a name beside the one in the first list. The run or reset that is named
+/// cleared fresh; the ping or refused write came after the last accepted reset;
+/// the write set fresh again; the refused reset came after the last accepted write.
 const RESETS: &[&str] = &[
     "C reset while fresh",
     "C reset before any write",
@@ -112,10 +112,12 @@ const RESETS: &[&str] = &[
     "C 10 before any write",
     "C 10 after a run",
     "C 10 after a reset",
+    "C 10 after a reset and a ping",
+    "C 10 after a reset and a refused write",
     "C start after a reset and a write",
-    "C start after reset 4",
-    "C start after reset 5",
-    "C start after reset 9",
+    "C start after a reset refused with 4",
+    "C start after a reset refused with 5",
+    "C start after a reset refused with 9",
 ];
 
 /// Every answer that must be seen.
@@ -123,12 +125,18 @@ fn listed() -> Vec<&'static str> {
     [REACHABLE, FAR_END, OTHER_FORMS, RESETS].concat()
 }
 
+/// The digits of the IDs of a write and a crate reset.
+const WRITE_ID: &[u8; 4] = b"0002";
+const RESET_ID: &[u8; 4] = b"0020";
+/// How the name of an accepted reset begins.
+const ACCEPTED_RESET: &str = "C 5 reset";
+
 /// What cleared fresh last, since power-up.
 #[derive(Clone, Copy, Default, PartialEq)]
 enum Cleared {
     #[default]
     Never,
-    ByRun,
+    ByStart,
     ByReset,
 }
 
@@ -137,7 +145,7 @@ impl Cleared {
     fn name(self) -> &'static str {
         match self {
             Cleared::Never => "before any write",
-            Cleared::ByRun => "after a run",
+            Cleared::ByStart => "after a run",
             Cleared::ByReset => "after a reset",
         }
     }
@@ -147,47 +155,66 @@ impl Cleared {
 #[derive(Default)]
 struct Past {
     cleared: Cleared,
-    /// The last accepted write came after a reset that had cleared fresh.
-    renewed: bool,
+    /// The last accepted write set fresh again after a reset had cleared it.
+    set_again: bool,
     /// The refusals of resets since the last accepted write.
-    refused: BTreeSet<String>,
+    refused_resets: BTreeSet<String>,
+    /// Pings and refused writes since the last accepted reset.
+    since_reset: BTreeSet<&'static str>,
 }
 
 impl Past {
     /// The names in `RESETS` of an answer, given by its own name, to a line that
-    /// found the board in this state. All lines of a script are given in turn.
-    fn names(&mut self, line: &[u8], name: &str, mode: Mode, fresh: bool) -> Vec<String> {
-        let mut names = Vec::new();
+    /// found the board in this state.
+    fn names(&self, line: &[u8], name: &str, mode: Mode, fresh: bool) -> Vec<String> {
         let state = if fresh { "while fresh" } else { self.cleared.name() };
+        match name {
+            "C 5 start" | "C 7 start" => self.start_names(),
+            "C 10" => {
+                let since = self.since_reset.iter().filter(|_| self.cleared == Cleared::ByReset);
+                let since = since.map(|what| format!("C 10 {state} and {what}"));
+                iter::once(format!("C 10 {state}")).chain(since).collect()
+            }
+            "C 9" if has_id(line, RESET_ID) => vec![format!("C 9 reset while {}", mode_name(mode))],
+            _ if name.starts_with(ACCEPTED_RESET) => vec![format!("C reset {state}")],
+            _ => vec![],
+        }
+    }
+
+    /// The names of an accepted start.
+    fn start_names(&self) -> Vec<String> {
+        let again = self.set_again.then(|| "C start after a reset and a write".to_string());
+        let refused = self.refused_resets.iter();
+        let refused = refused.map(|number| format!("C start after a reset refused with {number}"));
+        again.into_iter().chain(refused).collect()
+    }
+
+    /// Adds the line that had this answer. All lines of a script come in turn.
+    fn add(&mut self, line: &[u8], name: &str, fresh: bool) {
         match name {
             "P 0" => *self = Past::default(),
             "C 441 write" => {
-                self.renewed = !fresh && self.cleared == Cleared::ByReset;
-                self.refused.clear();
+                self.set_again = !fresh && self.cleared == Cleared::ByReset;
+                self.refused_resets.clear();
             }
-            "C 5 start" | "C 7 start" => {
-                if self.renewed {
-                    names.push("C start after a reset and a write".to_string());
-                }
-                names.extend(self.refused.iter().map(|name| format!("C start after {name}")));
-                self.cleared = Cleared::ByRun;
+            "C 5 start" | "C 7 start" => self.cleared = Cleared::ByStart,
+            "C 5 ping" => {
+                self.since_reset.insert("a ping");
             }
-            "C 10" => names.push(format!("C 10 {state}")),
-            "C 4" | "C 5" | "C 9" if is_reset(line) => {
-                self.refused.insert(name.replace('C', "reset"));
-                if name == "C 9" {
-                    names.push(format!("C 9 reset while {}", mode_name(mode)));
-                }
+            "C 4" | "C 5" | "C 6" | "C 8" | "C 9" if has_id(line, WRITE_ID) => {
+                self.since_reset.insert("a refused write");
             }
-            _ if name.starts_with("C 5 reset") => {
-                names.push(format!("C reset {state}"));
+            "C 4" | "C 5" | "C 9" if has_id(line, RESET_ID) => {
+                self.refused_resets.insert(name.replace("C ", ""));
+            }
+            _ if name.starts_with(ACCEPTED_RESET) => {
+                self.since_reset.clear();
                 if fresh {
                     self.cleared = Cleared::ByReset;
                 }
             }
             _ => {}
         }
-        names
     }
 }
 
@@ -200,9 +227,9 @@ fn mode_name(mode: Mode) -> &'static str {
     }
 }
 
-/// Whether a line of a command has the ID of a crate reset.
-fn is_reset(line: &[u8]) -> bool {
-    line[1..].iter().filter(|&&byte| byte != b' ').skip(4).take(4).eq(b"0020")
+/// Whether a line of a command has the ID of these digits.
+fn has_id(line: &[u8], id: &[u8; 4]) -> bool {
+    line[1..].iter().filter(|&&byte| byte != b' ').skip(4).take(4).eq(id)
 }
 
 /// The name of an answer to a line; all but `G 17` are in the first three lists.
@@ -260,25 +287,37 @@ fn other_form(line: &[u8]) -> Option<&'static str> {
     }
 }
 
+/// The name of each answer to a script's lines, and its names in `RESETS`.
+fn names<'a>(
+    script_lines: &'a [&[u8]],
+    answers: &'a [&[u8]],
+    served: &'a [Served],
+) -> impl Iterator<Item = (String, Vec<String>)> + 'a {
+    let mut past = Past::default();
+    answers.iter().zip(served).map(move |(answer, &Served { number, mode, fresh })| {
+        let line = script_lines[number];
+        let name = name(line, answer);
+        let reset_names = past.names(line, &name, mode, fresh);
+        past.add(line, &name, fresh);
+        (name, reset_names)
+    })
+}
+
 /// Compares a script's lines and gives how many there are, or the first
 /// difference; counts the model's answers.
 fn compare(program: &str, script: &[u8], seen: &Mutex<Seen>) -> Result<usize, String> {
     let (printed, served) = other::model(script);
     let script_lines = other::lines(script);
     let ours = other::lines(&printed);
-    let mut names = Seen::new();
-    let mut past = Past::default();
-    for (answer, &Served { number, mode, fresh }) in ours.iter().zip(&served) {
-        let line = script_lines[number];
-        let name = name(line, answer);
-        for name in past.names(line, &name, mode, fresh) {
-            *names.entry(name).or_default() += 1;
+    let mut counts = Seen::new();
+    for (name, reset_names) in names(&script_lines, &ours, &served) {
+        for name in reset_names.into_iter().chain([name]) {
+            *counts.entry(name).or_default() += 1;
         }
-        *names.entry(name).or_default() += 1;
     }
     {
         let mut seen = seen.lock().expect("no thread panicked");
-        for (name, count) in names {
+        for (name, count) in counts {
             *seen.entry(name).or_default() += count;
         }
     }
@@ -406,58 +445,138 @@ mod tests {
         }
     }
 
-    /// The names in `RESETS` that a script's lines have, in turn.
-    fn reset_names(script: &str) -> Vec<String> {
-        let (printed, served) = other::model(script.as_bytes());
-        let lines = other::lines(script.as_bytes());
-        let mut past = Past::default();
-        let answers = other::lines(&printed);
-        let named = answers.iter().zip(&served).flat_map(|(answer, served)| {
-            let line = lines[served.number];
-            past.names(line, &name(line, answer), served.mode, served.fresh)
-        });
-        named.collect()
+    const RESET: &str = "C0040 0020 0002 0000 0000\n";
+    const START: &str = "C0040 0004 0001 0000 0000\n";
+    const START_OF_ONE: &str = "C0040 0004 0002 0000 0000 0000 0001\n";
+    const TRIGGER: &str = "G0000000000000000\n";
+    const STOP: &str = "C0040 0008 0000 0000 0000\n";
+    const PING: &str = "C0040 0010 0000 0000 0000\n";
+    /// Refused with 4 and 5.
+    const RESET_OF_NO_CRATE: &str = "C004000 200003 00000000\n";
+    const RESET_WITH_SPARE_WORD: &str = "C0040 0020 0001 0000 0001\n";
+    /// Refused with 6.
+    const SHORT_WRITE: &str = "C0040 0002 0001 0000 0000 0000\n";
+    const SHORT_START: &str = "C0040 0004 0002 0000 0000 0000\n";
+
+    /// A write with these active flags of crate 3, and all else zero.
+    fn write_line(flags: &str) -> String {
+        format!("C0040 0002 0001 0000 0000 {}{flags}\n", "0000".repeat(435))
+    }
+
+    /// The lines of a ping in which no board answers.
+    fn time_ups() -> String {
+        (0..4).map(|crate_number| format!("T0{crate_number}\n").repeat(30)).collect()
+    }
+
+    /// Checks for each row which names in `RESETS` its lines have, in turn.
+    fn check_names(rows: &[(&[&str], &[&str])]) {
+        for (number, (row, expected)) in rows.iter().enumerate() {
+            let script = row.concat();
+            let (printed, served) = other::model(script.as_bytes());
+            let (lines, answers) = (other::lines(script.as_bytes()), other::lines(&printed));
+            let found = names(&lines, &answers, &served).flat_map(|(_, reset_names)| reset_names);
+            assert_eq!(found.collect::<Vec<_>>(), *expected, "row {number}");
+        }
     }
 
     #[test]
     fn names_of_resets_and_starts() {
-        let silent = format!("C00400002000100000000{}\n", "0000".repeat(436));
-        let active = format!("{}0001\n", &silent[..silent.len() - 5]);
-        let (reset, start) = ("C0040 0020 0002 0000 0000\n", "C0040 0004 0001 0000 0000\n");
-        let (stop, ping) = ("C0040 0008 0000 0000 0000\n", "C0040 0010 0000 0000 0000\n");
-        let (other_crate, spare) = ("C0040 0020 0003 0000 0000\n", "C0040 0020 0001 0000 0001\n");
-        let write: &str = &silent;
-        let after_both = "C start after a reset and a write";
-        for (lines, expected) in [
+        let write: &str = &write_line("0000");
+        check_names(&[
             (
-                &[reset, start, ping, reset][..],
-                &["C reset before any write", "C 10 before any write", "C 9 reset while pinging"][..],
+                &[RESET, START, PING, RESET],
+                &["C reset before any write", "C 10 before any write", "C 9 reset while pinging"],
             ),
             (
-                &[write, reset, reset, start, write, start],
-                &["C reset while fresh", "C reset after a reset", "C 10 after a reset", after_both],
+                &[write, RESET, RESET, START, write, START],
+                &[
+                    "C reset while fresh",
+                    "C reset after a reset",
+                    "C 10 after a reset",
+                    "C start after a reset and a write",
+                ],
             ),
             (
-                &[write, start, reset, stop, reset, start, write, start],
+                &[write, START, RESET, STOP, RESET, START, write, START],
                 &["C 9 reset while running", "C reset after a run", "C 10 after a run"],
             ),
+            // The trigger ends the run.
             (
-                &[&active, reset, "T03\nT03\nT03\n", start],
-                &["C 9 reset while reprogramming", "C start after reset 9"],
+                &[write, START_OF_ONE, TRIGGER, RESET, START],
+                &["C reset after a run", "C 10 after a run"],
             ),
+            // The power-up is refused.
             (
-                &[write, spare, other_crate, start],
-                &["C start after reset 4", "C start after reset 5"],
+                &[write, RESET, "P0200000000000000 0000\n", START],
+                &["C reset while fresh", "C 10 after a reset"],
             ),
-            // Starts without a name.
-            (&[reset, write, start], &["C reset before any write"]),
-            (&[write, spare, write, start], &[]),
-            (&[write, reset, write, write, start], &["C reset while fresh"]),
-            (&[write, reset, "P0000000000000000 0000\n", write, start], &["C reset while fresh"]),
-            (&["C0040 0020\n", write, "C0040 0003 0020 0000 0000\n", start], &[]),
-        ] {
-            assert_eq!(reset_names(&lines.concat()), expected);
+        ]);
+    }
+
+    #[test]
+    fn names_of_starts_with_no_accepted_write_since_a_reset() {
+        let (write, time_ups): (&str, &str) = (&write_line("0000"), &time_ups());
+        let (cleared, refused) = ("C reset while fresh", "C 10 after a reset");
+        let after_write = "C 10 after a reset and a refused write";
+        let after_ping = "C 10 after a reset and a ping";
+        let (parameter, spare_word) = ("C004000020002 00000000\n", "C004000020001 00000001\n");
+        for refused_write in [parameter, spare_word, SHORT_WRITE, &write_line("0400")] {
+            check_names(&[(
+                &[write, RESET, refused_write, START],
+                &[cleared, refused, after_write],
+            )]);
         }
+        check_names(&[
+            (&[write, RESET, PING, time_ups, START], &[cleared, refused, after_ping]),
+            (
+                &[write, RESET, PING, write, time_ups, START],
+                &[cleared, refused, after_ping, after_write],
+            ),
+            // No write.
+            (&[write, RESET, SHORT_START, START], &[cleared, refused]),
+            // Before the last reset.
+            (&[write, PING, time_ups, SHORT_WRITE, RESET, START], &[cleared, refused]),
+            (
+                &[write, RESET, SHORT_WRITE, RESET, START],
+                &[cleared, "C reset after a reset", refused],
+            ),
+            // The start cleared fresh.
+            (
+                &[write, START, STOP, RESET, SHORT_WRITE, START],
+                &["C reset after a run", "C 10 after a run"],
+            ),
+        ]);
+    }
+
+    #[test]
+    fn names_of_starts_after_refused_resets() {
+        let write: &str = &write_line("0000");
+        check_names(&[
+            (
+                &[&write_line("0001"), RESET, "T03\nT03\nT03\n", START],
+                &["C 9 reset while reprogramming", "C start after a reset refused with 9"],
+            ),
+            (
+                &[write, RESET_WITH_SPARE_WORD, RESET_OF_NO_CRATE, START],
+                &["C start after a reset refused with 4", "C start after a reset refused with 5"],
+            ),
+            // Refused with 4, 5 and 9, and no reset.
+            (&[write, "C0040 0010 0020 0000 0000\n", START], &[]),
+            (&[write, "C0040 0004 0001 0000 0020\n", START], &[]),
+            (&[write, PING, PING, &time_ups(), START], &[]),
+        ]);
+    }
+
+    #[test]
+    fn starts_without_a_name() {
+        let write: &str = &write_line("0000");
+        check_names(&[
+            (&[RESET, write, START], &["C reset before any write"]),
+            (&[write, RESET_WITH_SPARE_WORD, write, START], &[]),
+            (&[write, RESET, write, write, START], &["C reset while fresh"]),
+            (&[write, RESET, "P0000000000000000 0000\n", write, START], &["C reset while fresh"]),
+            (&["C0040 0020\n", write, "C0040 0003 0020 0000 0000\n", START], &[]),
+        ]);
     }
 
     #[test]

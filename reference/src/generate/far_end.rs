@@ -3,7 +3,7 @@
 
 use super::{
     bytes_line, clock_line, mend, power_up_line, random_block, random_measurements, serve_pass,
-    session_block, suited_command, trigger_line, words_line, Random, Script,
+    session_block, suited_command, trigger_line, words_line, Random, Script, GROUP, SCRIPTS,
 };
 use crate::blocks::{Kind, HEADER};
 use crate::board::{Board, Mode};
@@ -31,6 +31,11 @@ const EDGES: [u32; 12] = [
 ];
 /// Scripts that together have every length, or every place of a body.
 const STRIDE: usize = 100;
+/// Sorts of scripts of the far end, in turn.
+const SORTS: usize = 4;
+// `lengths` and `fields` need `STRIDE` scripts each: with fewer, the default
+// scripts would leave out some lengths and places.
+const _: () = assert!(SCRIPTS / GROUP / SORTS >= STRIDE);
 
 /// A line that takes a block: `W 02` or `Y` and a kind.
 #[derive(Clone, Copy)]
@@ -296,8 +301,8 @@ pub(super) fn read_back(random: &mut Random, script: &mut Script, letter: u8) {
 /// Scripts of the far end.
 pub(super) fn scripts(random: &mut Random, index: usize) -> Vec<u8> {
     let mut script = Script::new();
-    let part = index / 4;
-    match index % 4 {
+    let part = index / SORTS;
+    match index % SORTS {
         0 => lengths(random, &mut script, part),
         1 => fields(random, &mut script, part),
         2 => {
@@ -494,7 +499,7 @@ mod tests {
         let mut random = Random::new(3);
         let mut seen = BTreeSet::new();
         for part in 0..STRIDE {
-            let text = scripts(&mut random, 4 * part);
+            let text = scripts(&mut random, SORTS * part);
             for line in text.split(|&byte| byte == b'\n').filter(|line| !line.is_empty()) {
                 let byte = if line[0] == b'X' { &[][..] } else { line.get(1..3).unwrap_or(&[]) };
                 seen.insert((line[0], byte.to_vec(), line.len() - 1));
