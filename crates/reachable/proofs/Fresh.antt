@@ -71,13 +71,13 @@ needs-write : (β : Board) (stored : List ℕ) → β .run .fresh ≡ false → 
 needs-write β stored f k =
     record {
       not-fresh = f;
-      start = λ idle w l n e. by-state w (statusOf β) (Start l) n e ∙ rw (idle, f) refl;
+      start = λ idle w l n e r o. o .answer ∙ by-state w (statusOf β) (Start l) n e ∙ rw (idle, f) refl;
       block = k;
       reads = subst (StaticReadsBack β) k (λ out after n sent. static-back (headerOf β) out n after (β .block) sent);
     }
 
 needs-no-write : (β : Board) → β .run .fresh ≡ true → NeedsNoWrite β
-needs-no-write β f = record { fresh = f; start = λ idle w l n e. by-state w (statusOf β) (Start l) n e ∙ rw (idle, f) refl }
+needs-no-write β f = record { fresh = f; start = λ idle w l n e r o. o .answer ∙ by-state w (statusOf β) (Start l) n e ∙ rw (idle, f) refl }
 
 -- ---- after a crate reset
 

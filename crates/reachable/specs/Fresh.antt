@@ -11,16 +11,20 @@ use Rattle.commands.specs.declared.Command.{Command}
 use Rattle.commands.specs.declared.Command.the-variants.{Start}
 use Rattle.commands.specs.declared.RunLength.{RunLength}
 use Rattle.command_reader.specs.Reading.{taken, commandAnswer}
+use Rattle.acceptance.specs.Acceptance.{answerMeaning}
 use Rattle.block_reader.specs.declared.Kind.the-variants.{Static}
 use Rattle.round_trips.specs.Blocks.{asSent, ReadsBack}
 use Rattle.board.specs.State.{isIdle}
-use Rattle.board.specs.Commands.{boardAnswer}
+use Rattle.board.specs.Commands.{Obeys}
 use Rattle.board.specs.SentOut.{headerOf, SendsStatic}
 use Rattle.board.specs.declared.Board.{Board}
+use Rattle.board.specs.declared.CommandResult.{CommandResult}
 
--- what every start gets that its words do not refuse, while the board is idle
+-- what `obey` answers, while the board is idle, to every start that its words do not refuse
 abbrev pub IdleStartGets : Board → (RunLength → Answer Command) → Type 0
-IdleStartGets β answer = isIdle β ≡ true → (w : List ℕ) (l : RunLength) (n : ℕ) → commandAnswer w ≡ given (taken (Start l) n) → boardAnswer β w ≡ answer l
+IdleStartGets β answer =
+    isIdle β ≡ true → (w : List ℕ) (l : RunLength) (n : ℕ) → commandAnswer w ≡ given (taken (Start l) n)
+    → (r : CommandResult) → Obeys β w r → answerMeaning (r .answer) ≡ answer l
 
 -- `static_block` gives this body wherever it is accepted: its words read back with it
 abbrev pub StaticReadsBack : Board → List ℕ → Type 0
