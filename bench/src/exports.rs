@@ -1,5 +1,5 @@
 //! The functions of the Rattle crate `exports`, each behind a safe one. None has a `requires`; a slice passes as a pointer and a length.
-//! A function that can refuse returns 0 or the number of the refusal, and after a refusal the lent output is as it was.
+//! A function that can refuse returns 0 or the number of the refusal, and after a refusal all lent memory is as it was.
 
 #[link(name = "exports", kind = "static")]
 extern "C" {
@@ -17,6 +17,8 @@ extern "C" {
         length: usize,
         items: *const u8,
         items_length: usize,
+        frame: *mut u8,
+        frame_length: usize,
         good: *mut u64,
         good_length: usize,
     ) -> u8;
@@ -25,6 +27,8 @@ extern "C" {
         length: usize,
         items: *const u8,
         items_length: usize,
+        frame: *mut u8,
+        frame_length: usize,
         good: *mut u64,
         good_length: usize,
     ) -> u8;
@@ -33,6 +37,8 @@ extern "C" {
         length: usize,
         crates: *const u8,
         count: usize,
+        frame: *mut u8,
+        frame_length: usize,
         served: *mut u64,
         served_length: usize,
     ) -> u8;
@@ -82,22 +88,32 @@ pub fn commands(words: &[u16], count: u64) -> Counted {
     counted(|accepted, room| unsafe { ftm_commands(words, length, count, accepted, room) })
 }
 
-pub fn pass(words: &[u16], items: &[u8]) -> Counted {
+/// Each item lends `frame` for the next frame.
+pub fn pass(words: &[u16], items: &[u8], frame: &mut [u8]) -> Counted {
     let (words, length) = (words.as_ptr(), words.len());
     let (items, size) = (items.as_ptr(), items.len());
-    counted(|good, room| unsafe { ftm_pass(words, length, items, size, good, room) })
+    let (frame, lent) = (frame.as_mut_ptr(), frame.len());
+    counted(|good, room| unsafe { ftm_pass(words, length, items, size, frame, lent, good, room) })
 }
 
-pub fn replies(words: &[u16], items: &[u8]) -> Counted {
+/// As `pass`, each item by a call on the whole board.
+pub fn replies(words: &[u16], items: &[u8], frame: &mut [u8]) -> Counted {
     let (words, length) = (words.as_ptr(), words.len());
     let (items, size) = (items.as_ptr(), items.len());
-    counted(|good, room| unsafe { ftm_replies(words, length, items, size, good, room) })
+    let (frame, lent) = (frame.as_mut_ptr(), frame.len());
+    counted(|good, room| unsafe {
+        ftm_replies(words, length, items, size, frame, lent, good, room)
+    })
 }
 
-pub fn time_ups(words: &[u16], crates: &[u8]) -> Counted {
+/// Each time-up lends `frame` for the next frame.
+pub fn time_ups(words: &[u16], crates: &[u8], frame: &mut [u8]) -> Counted {
     let (words, length) = (words.as_ptr(), words.len());
     let (crates, count) = (crates.as_ptr(), crates.len());
-    counted(|served, room| unsafe { ftm_time_ups(words, length, crates, count, served, room) })
+    let (frame, lent) = (frame.as_mut_ptr(), frame.len());
+    counted(|served, room| unsafe {
+        ftm_time_ups(words, length, crates, count, frame, lent, served, room)
+    })
 }
 
 /// The timestamps after the steps, then the on-time.

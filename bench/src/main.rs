@@ -62,22 +62,23 @@ mod plain {
         }
     }
 
-    pub fn pass(words: &[u16], items: &[u8]) -> Counted {
+    pub fn pass(words: &[u16], items: &[u8], frame: &mut [u8]) -> Counted {
         let left_over = (items.len() % ITEM != 0).then_some(Refusal::PacketLength);
         let mut board = begun(words, 1, left_over)?;
         let mut good = 0;
         for item in items.chunks_exact(ITEM) {
-            if board.reply(item[0], &item[1..]).is_ok_and(|answer| answer.outcome == Outcome::Good)
-            {
+            let answer = board.reply(item[0], &item[1..], frame);
+            if answer.is_ok_and(|answer| answer.outcome == Outcome::Good) {
                 good += 1;
             }
         }
         Ok(good)
     }
 
-    pub fn time_ups(words: &[u16], crates: &[u8]) -> Counted {
+    pub fn time_ups(words: &[u16], crates: &[u8], frame: &mut [u8]) -> Counted {
         let mut board = begun(words, 1, None)?;
-        let served = crates.iter().filter(|&&crate_number| board.time_up(crate_number).is_ok());
+        let served =
+            crates.iter().filter(|&&crate_number| board.time_up(crate_number, frame).is_ok());
         Ok(served.count() as u64)
     }
 
@@ -155,6 +156,21 @@ fn times<T: PartialEq + Debug>(
     best
 }
 
+/// A call that obeys a command, then hands in items, each with the lent bytes for the next frame.
+type Pass = fn(&[u16], &[u8], &mut [u8]) -> Counted;
+
+/// The times of such calls. Both leave the same frame.
+fn pass_times(count: u32, [proved, plain]: [Pass; 2], words: &[u16], items: &[u8]) -> [f64; 2] {
+    let [mut frame, mut other] = [[0; frames::BYTES]; 2];
+    let best = times(
+        count,
+        || proved(black_box(words), black_box(items), black_box(&mut frame)),
+        || plain(black_box(words), black_box(items), black_box(&mut other)),
+    );
+    assert_eq!(frame, other);
+    best
+}
+
 fn row(what: &str, [proved, plain]: [f64; 2]) {
     let shown = |time: f64| if time < 9.95 { format!("{time:.1}") } else { format!("{time:.0}") };
     println!("| {what} | {} | {} | {:.2} |", shown(proved), shown(plain), proved / plain);
@@ -165,25 +181,34 @@ fn single(what: &str, calls: usize, whole: [f64; 2], before: [f64; 2]) {
     row(what, [0, 1].map(|side| (whole[side] - before[side]) / calls as f64));
 }
 
-/// The good replies of a whole pass, the crates by turns.
+/// A good reply to a frame.
+fn good_reply(frame: &[u8; frames::BYTES]) -> [u8; frames::BYTES] {
+    let mut reply = *frame;
+    reply.swap(1, 2);
+    if reply[4] == frames::PING {
+        reply[5..13].copy_from_slice(&(0x0123_4567_89AB_CDEF_u64 >> 7).to_be_bytes());
+    }
+    reply[frames::BYTES - 1] = crc8(&reply[..frames::BYTES - 1]);
+    reply
+}
+
+/// The good replies of a whole pass, the crates by turns: to the first frame of each, then to the one that its last reply gave.
 fn good_items(words: &[u16]) -> Vec<u8> {
     let mut board = Board::power_up(0, 0).expect("0 is below 2^57");
     board.obey(words).expect("an idle board");
+    let first = |c| {
+        let mut frame = [0; frames::BYTES];
+        board.first_frame(c, &mut frame).is_ok().then_some((c, frame))
+    };
+    let mut outstanding: Vec<_> = (0..4).filter_map(first).collect();
     let mut items = Vec::new();
-    while (0..4).any(|c| board.outstanding_frame(c).is_ok()) {
-        for c in 0..4 {
-            if let Ok(frame) = board.outstanding_frame(c) {
-                let mut reply = *frame;
-                reply.swap(1, 2);
-                if reply[4] == 4 {
-                    reply[5..13].copy_from_slice(&(0x0123_4567_89AB_CDEF_u64 >> 7).to_be_bytes());
-                }
-                reply[frames::BYTES - 1] = crc8(&reply[..frames::BYTES - 1]);
-                board.reply(c, &reply).expect("a frame is outstanding");
-                items.push(c);
-                items.extend_from_slice(&reply);
-            }
-        }
+    while !outstanding.is_empty() {
+        outstanding.retain_mut(|(c, frame)| {
+            let reply = good_reply(frame);
+            items.push(*c);
+            items.extend_from_slice(&reply);
+            !board.reply(*c, &reply, frame).expect("a frame is outstanding").done
+        });
     }
     items
 }
@@ -241,8 +266,7 @@ fn series(write: &[u16], writes: &[u8], pings: &[u8]) {
         ("a whole ping, 40 good replies", &PING, pings, 100),
         ("a whole reprogramming, 120 good replies", write, writes, 100),
     ] {
-        let proved = || exports::pass(black_box(words), black_box(items));
-        row(what, times(count, proved, || plain::pass(black_box(words), black_box(items))));
+        row(what, pass_times(count, [exports::pass, plain::pass], words, items));
     }
     let run = run_commands();
     let (mut sent, mut again) = (vec![0; 7000], vec![0; 7000]);
@@ -253,21 +277,17 @@ fn series(write: &[u16], writes: &[u8], pings: &[u8]) {
 }
 
 fn single_calls(write: &[u16], writes: &[u8], pings: &[u8]) {
-    for (what, words, items) in
-        [("a good reply", write, writes), ("a good reply to a ping", &PING, pings)]
-    {
-        let [whole, before] = [items, &[]].map(|items| {
-            let proved = || exports::replies(black_box(words), black_box(items));
-            times(50, proved, || plain::pass(black_box(words), black_box(items)))
-        });
-        single(what, items.len() / ITEM, whole, before);
-    }
     let turns: Vec<u8> = (0..120).map(|i| i % 4).collect();
-    let [whole, before] = [&turns[..], &[]].map(|crates| {
-        let proved = || exports::time_ups(black_box(write), black_box(crates));
-        times(50, proved, || plain::time_ups(black_box(write), black_box(crates)))
-    });
-    single("a time-up", turns.len(), whole, before);
+    let (replies, time_ups): ([Pass; 2], [Pass; 2]) =
+        ([exports::replies, plain::pass], [exports::time_ups, plain::time_ups]);
+    for (what, calls, size, words, items) in [
+        ("a reply good, next frame given", replies, ITEM, write, writes),
+        ("a ping's reply good, next frame given", replies, ITEM, &PING, pings),
+        ("a time-up, next frame given", time_ups, 1, write, &turns),
+    ] {
+        let [whole, before] = [items, &[]].map(|items| pass_times(50, calls, words, items));
+        single(what, items.len() / size, whole, before);
+    }
     let run = run_commands();
     let ticks: Vec<u32> = (0..1000).collect();
     let [whole, before] = [&ticks[..], &[]].map(|ticks| {
@@ -298,6 +318,18 @@ fn single_calls(write: &[u16], writes: &[u8], pings: &[u8]) {
     }
 }
 
+/// However many bytes are lent, both count the same items and leave the same bytes.
+fn lent_bytes(write: &[u16], writes: &[u8]) {
+    let calls: [Pass; 3] = [plain::pass, exports::pass, exports::replies];
+    for lent in [0, 27, 28, 30] {
+        let [plain, pass, replies] = calls.map(|call| {
+            let mut frame = vec![5; lent];
+            (call(write, writes, &mut frame), frame)
+        });
+        assert_eq!([&pass, &replies], [&plain; 2]);
+    }
+}
+
 /// Both refuse alike, and leave what was lent as it was.
 fn refusals(write: &[u16]) {
     let (stop, twice) = (&STOP[..], [&READ[..], &STOP[..]].concat());
@@ -305,11 +337,14 @@ fn refusals(write: &[u16]) {
     for (words, items, refusal) in
         [(stop, 29, 9), (stop, 28, 9), (cut, 30, 6), (write, 30, 13), (&PING, 28, 13)]
     {
-        let items = vec![0; items];
-        assert_eq!(exports::pass(words, &items), Err(refusal));
-        assert_eq!(exports::replies(words, &items), Err(refusal));
-        assert_eq!(plain::pass(words, &items), Err(refusal));
-        assert_eq!(exports::time_ups(words, &items), plain::time_ups(words, &items));
+        let (items, mut frame) = (vec![0; items], [5; frames::BYTES]);
+        assert_eq!(exports::pass(words, &items, &mut frame), Err(refusal));
+        assert_eq!(exports::replies(words, &items, &mut frame), Err(refusal));
+        assert_eq!(plain::pass(words, &items, &mut frame), Err(refusal));
+        assert_eq!(frame, [5; frames::BYTES]);
+        let mut other = frame;
+        let proved = exports::time_ups(words, &items, &mut frame);
+        assert_eq!((proved, frame), (plain::time_ups(words, &items, &mut other), other));
     }
     assert_eq!((exports::packets(&[0; 8]), plain::packets(&[0; 8])), (Err(13), Err(13)));
     let run = run_commands();
@@ -327,6 +362,7 @@ fn main() {
     let write = write_command();
     refusals(&write);
     let (writes, pings) = (good_items(&write), good_items(&PING));
+    lent_bytes(&write, &writes);
     println!("| on the same input | proved, ns | Rust, ns | ratio |\n|---|---|---|---|");
     formats(&write);
     series(&write, &writes, &pings);

@@ -252,12 +252,65 @@ impl Board {
         Step { board, code, sends: 1, frame }
     }
 
-    /// A reply of any length from a crate. Refuses with 11 or 12.
-    pub fn reply(&mut self, crate_number: u8, bytes: &[u8]) -> Result<Answer, Refusal> {
+    /// A reply of any length from a crate. The next frame goes into the first 28
+    /// bytes of `lent`; where the crate is done they keep what they held (02, d).
+    /// Refuses with 11, 12 or 19.
+    pub fn reply(
+        &mut self,
+        crate_number: u8,
+        bytes: &[u8],
+        lent: &mut [u8],
+    ) -> Result<Answer, Refusal> {
+        self.serve(crate_number, Some(bytes), lent)
+    }
+
+    /// The time for a reply from a crate is up; `lent` and the refusals are those
+    /// of a reply.
+    pub fn time_up(&mut self, crate_number: u8, lent: &mut [u8]) -> Result<Answer, Refusal> {
+        self.serve(crate_number, None, lent)
+    }
+
+    /// Copies the frame with which this pass began on a crate into the first 28
+    /// bytes of `lent` (02, d). Refuses with 11, with 12 also once a reply or
+    /// time-up was counted, or with 19.
+    pub fn first_frame(&self, crate_number: u8, lent: &mut [u8]) -> Result<(), Refusal> {
         let (crate_number, step) = self.outstanding_step(crate_number)?;
-        let Some(reply) = frames::good_reply(&step.frame, bytes) else {
-            return Ok(self.missed(crate_number));
+        if self.buses[crate_number].accepted > 0 {
+            return Err(Refusal::NothingOutstanding);
+        }
+        *place_of_frame(lent)? = step.frame;
+        Ok(())
+    }
+
+    /// A reply, or a time-up where there are no bytes.
+    fn serve(
+        &mut self,
+        crate_number: u8,
+        bytes: Option<&[u8]>,
+        lent: &mut [u8],
+    ) -> Result<Answer, Refusal> {
+        let (crate_number, &step) = self.outstanding_step(crate_number)?;
+        // Also where no frame will be due (02, d: "whenever").
+        let lent = place_of_frame(lent)?;
+        let answer = match bytes.and_then(|bytes| frames::good_reply(&step.frame, bytes)) {
+            Some(reply) => self.answered(crate_number, &step, reply),
+            None => self.missed(crate_number),
         };
+        if let Some(next) = &self.buses[crate_number].step {
+            *lent = next.frame;
+        }
+        Ok(answer)
+    }
+
+    fn outstanding_step(&self, crate_number: u8) -> Result<(usize, &Step), Refusal> {
+        let crate_number = usize::from(crate_number);
+        let bus = self.buses.get(crate_number).ok_or(Refusal::NoSuchCrate)?;
+        let step = bus.step.as_ref().ok_or(Refusal::NothingOutstanding)?;
+        Ok((crate_number, step))
+    }
+
+    /// A good reply: moves to the next step.
+    fn answered(&mut self, crate_number: usize, step: &Step, reply: &Frame) -> Answer {
         let Step { board, code, sends, .. } = *step;
         let next = match code {
             frames::DACS | frames::ENABLES => Some(self.step(crate_number, board, code + 1)),
@@ -267,20 +320,7 @@ impl Board {
             }
             _ => self.first_step(crate_number, board + 1),
         };
-        Ok(self.proceed(crate_number, Outcome::Good, next))
-    }
-
-    /// The time for a reply from a crate is up. Refuses with 11 or 12.
-    pub fn time_up(&mut self, crate_number: u8) -> Result<Answer, Refusal> {
-        let (crate_number, _) = self.outstanding_step(crate_number)?;
-        Ok(self.missed(crate_number))
-    }
-
-    fn outstanding_step(&self, crate_number: u8) -> Result<(usize, &Step), Refusal> {
-        let crate_number = usize::from(crate_number);
-        let bus = self.buses.get(crate_number).ok_or(Refusal::NoSuchCrate)?;
-        let step = bus.step.as_ref().ok_or(Refusal::NothingOutstanding)?;
-        Ok((crate_number, step))
+        self.proceed(crate_number, Outcome::Good, next)
     }
 
     /// A bad reply or a time-up: sends again, or the board has failed.
@@ -324,11 +364,6 @@ impl Board {
             dna as u16,
             u16::from(reply[26]),
         ]);
-    }
-
-    /// The frame outstanding on a crate. Refuses with 11 or 12.
-    pub fn outstanding_frame(&self, crate_number: u8) -> Result<&Frame, Refusal> {
-        self.outstanding_step(crate_number).map(|(_, step)| &step.frame)
     }
 
     /// The number of frames sent on a crate in this pass or, outside of a pass,
@@ -380,6 +415,11 @@ impl Board {
     }
 }
 
+/// The part of lent bytes that a frame goes into; 19 if they are fewer.
+fn place_of_frame(lent: &mut [u8]) -> Result<&mut Frame, Refusal> {
+    lent.first_chunk_mut().ok_or(Refusal::OutputTooShort)
+}
+
 #[cfg(test)]
 mod tests {
     use super::*;
@@ -392,11 +432,46 @@ mod tests {
         words
     }
 
+    fn is_open(board: &Board, crate_number: u8) -> bool {
+        board.outstanding_step(crate_number).is_ok()
+    }
+
+    /// A good reply to the frame that is outstanding.
     fn good(board: &Board, crate_number: u8) -> Frame {
-        let mut reply = *board.outstanding_frame(crate_number).unwrap();
+        let mut reply = board.outstanding_step(crate_number).unwrap().1.frame;
         reply.swap(1, 2);
         reply[27] = crc8(&reply[..27]);
         reply
+    }
+
+    /// What is handed in on a crate.
+    #[derive(Clone, Copy, Debug)]
+    enum Given {
+        Right,
+        Wrong,
+        TimeUp,
+    }
+    use Given::{Right, TimeUp, Wrong};
+
+    fn hand_in(
+        board: &mut Board,
+        crate_number: u8,
+        given: Given,
+        lent: &mut [u8],
+    ) -> Result<Answer, Refusal> {
+        match given {
+            Right => {
+                let reply = good(board, crate_number);
+                board.reply(crate_number, &reply, lent)
+            }
+            Wrong => board.reply(crate_number, &[], lent),
+            TimeUp => board.time_up(crate_number, lent),
+        }
+    }
+
+    /// The same with 28 bytes lent; no refusal is expected.
+    fn count(board: &mut Board, crate_number: u8, given: Given) -> Answer {
+        hand_in(board, crate_number, given, &mut [0; 28]).unwrap()
     }
 
     const START: [u16; 5] = [0x40, 4, 1, 0, 0];
@@ -410,7 +485,7 @@ mod tests {
     /// Lets the boards time out until no pass is under way.
     fn run_out(board: &mut Board) {
         for crate_number in 0..4 {
-            while board.time_up(crate_number).is_ok() {}
+            while board.time_up(crate_number, &mut [0; 28]).is_ok() {}
         }
     }
 
@@ -420,9 +495,8 @@ mod tests {
         let mut board = Board::power_up(1, 2).unwrap();
         board.obey(&PING).unwrap();
         for crate_number in 0..4 {
-            while board.outstanding_frame(crate_number).is_ok() {
-                let reply = good(&board, crate_number);
-                board.reply(crate_number, &reply).unwrap();
+            while is_open(&board, crate_number) {
+                count(&mut board, crate_number, Right);
             }
         }
         let words = write_words(|block| {
@@ -443,14 +517,15 @@ mod tests {
         assert_eq!(board.obey(&START).unwrap_err().refusal, Refusal::NotInThisState);
         let again = Answer { outcome: Outcome::Again, done: false };
         let failed = Answer { outcome: Outcome::Failed, done: true };
-        assert_eq!(board.time_up(2), Ok(again));
-        assert_eq!(board.reply(2, &[]), Ok(again));
+        assert_eq!(count(&mut board, 2, TimeUp), again);
+        assert_eq!(count(&mut board, 2, Wrong), again);
         assert_eq!(board.failure_message(0, &mut [0; 40]), Err(Refusal::NotInThisState));
-        assert_eq!(board.time_up(2), Ok(failed));
+        assert_eq!(count(&mut board, 2, TimeUp), failed);
         assert_eq!(board.frames_sent(2), Ok(3));
         assert_eq!(board.frames_sent(0), Ok(0));
-        assert_eq!(board.time_up(2), Err(Refusal::NothingOutstanding));
-        assert_eq!(board.time_up(4), Err(Refusal::NoSuchCrate));
+        let done = Err(Refusal::NothingOutstanding);
+        assert_eq!(board.time_up(2, &mut [0; 28]), done);
+        assert_eq!(board.reply(2, &[], &mut [0; 28]), done);
         let mut out = [0; 40];
         assert_eq!(board.failure_message(0, &mut out), Ok(40));
         assert_eq!(out[11..17], [3, 0x40, 0x24, 192, 0, 1]);
@@ -463,12 +538,11 @@ mod tests {
         let mut board = Board::power_up(1, 2).unwrap();
         board.obey(&write_words(|block| block[0x1B0] = 1 << 9)).unwrap();
         for step in 0..3 {
-            board.time_up(0).unwrap();
-            board.time_up(0).unwrap();
-            let reply = good(&board, 0);
-            assert_eq!(reply[4], step + 1);
-            let answer = board.reply(0, &reply).unwrap();
-            assert_eq!(answer, Answer { outcome: Outcome::Good, done: step == 2 });
+            count(&mut board, 0, TimeUp);
+            count(&mut board, 0, TimeUp);
+            assert_eq!(good(&board, 0)[4], step + 1);
+            let answer = Answer { outcome: Outcome::Good, done: step == 2 };
+            assert_eq!(count(&mut board, 0, Right), answer);
         }
         assert_eq!(board.frames_sent(0), Ok(9));
         assert_eq!(board.mode(), Mode::Idle);
@@ -536,18 +610,18 @@ mod tests {
             for number in 0..10u8 {
                 if number == 4 {
                     for _ in 0..3 {
-                        board.time_up(crate_number).unwrap();
+                        count(&mut board, crate_number, TimeUp);
                     }
                     continue;
                 }
                 if number == 5 {
-                    board.time_up(crate_number).unwrap();
+                    count(&mut board, crate_number, TimeUp);
                 }
                 let mut reply = good(&board, crate_number);
                 reply[12] = number;
                 reply[26] = 0xEE;
                 reply[27] = crc8(&reply[..27]);
-                board.reply(crate_number, &reply).unwrap();
+                board.reply(crate_number, &reply, &mut [0; 28]).unwrap();
             }
         }
         assert_eq!(board.mode(), Mode::Idle);
@@ -564,6 +638,185 @@ mod tests {
         for crate_number in 0..4 {
             board.failure_message(crate_number, &mut message).unwrap();
             assert_eq!(message[13], 16 * crate_number as u16 + 4);
+        }
+    }
+
+    /// What lent bytes hold before a call.
+    const HELD: u8 = 0xA5;
+
+    /// A board in a reprogramming pass, with boards 2 and 7 of crate 1 and board 0
+    /// of crate 3 active.
+    fn reprogramming() -> Board {
+        let mut board = Board::power_up(1, 2).unwrap();
+        let words = write_words(|block| {
+            for (place, word) in block.iter_mut().enumerate().skip(0x20) {
+                *word = place as u16;
+            }
+            block[0x1B0..].copy_from_slice(&[0, 1 << 2 | 1 << 7, 0, 1]);
+        });
+        board.obey(&words).unwrap();
+        board
+    }
+
+    /// A board in a ping.
+    fn pinging() -> Board {
+        let mut board = Board::power_up(1, 2).unwrap();
+        board.obey(&PING).unwrap();
+        board
+    }
+
+    /// What is handed in, its outcome, and the board and code of the next frame,
+    /// none where the crate is done.
+    type Row = (Given, Outcome, Option<(usize, u8)>);
+
+    /// Hands the rows in on crate 1, to its end, with 28 and with 40 bytes lent.
+    fn check_handed_out(begun: &Board, rows: &[Row]) {
+        for length in [28, 40] {
+            let mut board = begun.clone();
+            for &(given, outcome, next) in rows {
+                let (mut lent, mut expected) = ([HELD; 40], [HELD; 40]);
+                if let Some((number, code)) = next {
+                    let frame = frames::for_board(&board.block, 1, number, code);
+                    expected[..28].copy_from_slice(&frame);
+                }
+                let answer = hand_in(&mut board, 1, given, &mut lent[..length]);
+                assert_eq!(answer, Ok(Answer { outcome, done: next.is_none() }), "{given:?}");
+                assert_eq!(lent, expected, "{given:?}");
+            }
+            assert!(!is_open(&board, 1));
+        }
+    }
+
+    #[test]
+    fn answers_hand_out_the_next_frame() {
+        use Outcome::{Again, Failed, Good};
+        check_handed_out(
+            &reprogramming(),
+            &[
+                (TimeUp, Again, Some((2, 1))),
+                (Right, Good, Some((2, 2))),
+                (Wrong, Again, Some((2, 2))),
+                (TimeUp, Again, Some((2, 2))),
+                (Wrong, Failed, Some((7, 1))),
+                (Right, Good, Some((7, 2))),
+                (Right, Good, Some((7, 3))),
+                (Right, Good, None),
+            ],
+        );
+        for last in [Wrong, TimeUp] {
+            check_handed_out(
+                &reprogramming(),
+                &[
+                    (Right, Good, Some((2, 2))),
+                    (Right, Good, Some((2, 3))),
+                    (Right, Good, Some((7, 1))),
+                    (last, Again, Some((7, 1))),
+                    (last, Again, Some((7, 1))),
+                    (last, Failed, None),
+                ],
+            );
+        }
+        let pings = [1, 2, 3, 4, 5, 6, 7, 8, 9].map(|number| (Right, Good, Some((number, 4))));
+        check_handed_out(&pinging(), &[&pings[..], &[(Right, Good, None)]].concat());
+    }
+
+    /// The first frame, with 40 bytes lent; those that it does not fill stay.
+    fn first_frame(board: &Board, crate_number: u8) -> Result<Frame, Refusal> {
+        let mut lent = [HELD; 40];
+        let fetched = board.first_frame(crate_number, &mut lent);
+        let filled = if fetched.is_ok() { 28 } else { 0 };
+        assert!(lent[filled..].iter().all(|&byte| byte == HELD));
+        fetched.map(|()| *lent.first_chunk().unwrap())
+    }
+
+    #[test]
+    fn too_few_lent_bytes_count_nothing() {
+        for (mut board, turns) in [
+            (reprogramming(), &[Right][..]),
+            (reprogramming(), &[TimeUp, Wrong, TimeUp, Right]),
+            (pinging(), &[Right]),
+            (pinging(), &[Wrong, TimeUp, Wrong, Right]),
+        ] {
+            let mut counted = 0;
+            // At every step, the last one too, after which no frame would be due.
+            while is_open(&board, 1) {
+                let before = board.clone();
+                for (given, length) in
+                    [Right, Wrong, TimeUp].into_iter().flat_map(|given| [(given, 0), (given, 27)])
+                {
+                    let mut lent = [HELD; 27];
+                    let refused = hand_in(&mut board, 1, given, &mut lent[..length]);
+                    assert_eq!(refused, Err(Refusal::OutputTooShort), "{given:?}");
+                    assert_eq!((&board, lent), (&before, [HELD; 27]), "{given:?}");
+                    assert_eq!(first_frame(&board, 1).is_ok(), counted == 0);
+                }
+                count(&mut board, 1, turns[counted % turns.len()]);
+                counted += 1;
+            }
+            assert_eq!(board.frames_sent(1), Ok(counted as u32));
+        }
+    }
+
+    #[test]
+    fn lowest_refusal_on_a_crate() {
+        let mut board = reprogramming();
+        count(&mut board, 3, TimeUp);
+        let before = board.clone();
+        for length in [0, 27, 28, 40] {
+            let mut lent = [HELD; 40];
+            for (crate_number, refusal) in [
+                (4, Refusal::NoSuchCrate),
+                (255, Refusal::NoSuchCrate),
+                (0, Refusal::NothingOutstanding),
+            ] {
+                let lent = &mut lent[..length];
+                assert_eq!(board.reply(crate_number, &[], lent), Err(refusal));
+                assert_eq!(board.time_up(crate_number, lent), Err(refusal));
+                assert_eq!(board.first_frame(crate_number, lent), Err(refusal));
+            }
+            let lent = &mut lent[..length];
+            assert_eq!(board.first_frame(3, lent), Err(Refusal::NothingOutstanding));
+            if length < 28 {
+                assert_eq!(board.first_frame(1, lent), Err(Refusal::OutputTooShort));
+            }
+            assert!(lent.iter().all(|&byte| byte == HELD));
+        }
+        assert_eq!(board, before);
+        let mut lent = [HELD; 28];
+        assert_eq!(board.first_frame(1, &mut lent), Ok(()));
+        assert_eq!(lent, frames::for_board(&board.block, 1, 2, 1));
+    }
+
+    #[test]
+    fn first_frame_until_one_is_counted() {
+        let refused = Err(Refusal::NothingOutstanding);
+        assert_eq!(first_frame(&Board::power_up(1, 2).unwrap(), 1), refused);
+        for given in [Right, Wrong, TimeUp] {
+            let mut board = reprogramming();
+            let block = *board.block();
+            let [first, other] =
+                [(1, 2), (3, 0)].map(|(c, number)| Ok(frames::for_board(&block, c, number, 1)));
+            assert_eq!(
+                [0, 1, 1, 2].map(|c| first_frame(&board, c)),
+                [refused, first, first, refused]
+            );
+            // Then on crate 1 alone, to its end.
+            while is_open(&board, 1) {
+                count(&mut board, 1, given);
+                assert_eq!([1, 3].map(|c| first_frame(&board, c)), [refused, other]);
+            }
+            run_out(&mut board);
+            assert_eq!(board.mode(), Mode::Idle);
+            assert_eq!([0, 1, 2, 3].map(|c| first_frame(&board, c)), [refused; 4]);
+            // What was refused before a pass does not count in it.
+            assert!(board.time_up(1, &mut [0; 28]).is_err());
+            board.obey(&PING).unwrap();
+            for crate_number in 0..4 {
+                let ping = frames::for_board(&block, usize::from(crate_number), 0, 4);
+                assert_eq!(first_frame(&board, crate_number), Ok(ping));
+                count(&mut board, crate_number, given);
+                assert_eq!(first_frame(&board, crate_number), refused);
+            }
         }
     }
 
@@ -659,7 +912,7 @@ mod tests {
         assert!(board.obey(&STOP).is_err());
         assert!(board.obey(&PING).is_err());
         assert!(board.trigger(&Trigger::default(), &mut [0; 7]).is_err());
-        assert!(board.reply(4, &[]).is_err());
+        assert!(board.reply(4, &[], &mut [0; 28]).is_err());
         assert!(board.ftu_list(&mut [0; 260]).is_err());
         assert_eq!(board, before);
     }

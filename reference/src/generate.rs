@@ -1,6 +1,6 @@
 //! The generator of scripts: families of scripts, each determined by a seed
 //! and a number. The model runs beside the generator, so that scripts can
-//! answer the frames that are outstanding.
+//! answer the frames that it handed out.
 
 use std::collections::BTreeMap;
 
@@ -110,6 +110,12 @@ fn power_up_line(board_id: u64, firmware_id: u16) -> Vec<u8> {
     line
 }
 
+/// The crate of a line that has one below 4: the second digit is its number.
+pub fn crate_in(line: &[u8]) -> usize {
+    let second = line[1..].iter().filter(|&&byte| byte != b' ').nth(1);
+    usize::from(second.expect("two digits of a crate") - b'0')
+}
+
 /// The bounded words of the static block.
 const BOUNDED: [usize; 8] = [0, 1, 2, 3, 432, 433, 434, 435];
 /// The bytes of a trigger that are flags.
@@ -120,6 +126,9 @@ struct Script {
     text: Vec<u8>,
     replay: Replay,
     answers: Vec<u8>,
+    /// The frame handed out last on each crate, none once it is done: what a bus
+    /// driver has in hand (02, d).
+    frames: [Option<Frame>; CRATES],
     /// The digits of the last block, packet or command written at each letter.
     written: BTreeMap<u8, Vec<u8>>,
 }
@@ -130,6 +139,7 @@ impl Script {
             text: Vec::new(),
             replay: Replay::new(),
             answers: Vec::new(),
+            frames: [None; CRATES],
             written: BTreeMap::new(),
         }
     }
@@ -146,15 +156,49 @@ impl Script {
         matches!(self.mode(), Mode::Reprogramming | Mode::Ping)
     }
 
+    /// The frame that waits for a reply from this crate.
+    fn frame(&self, crate_number: u8) -> Option<&Frame> {
+        self.frames.get(usize::from(crate_number))?.as_ref()
+    }
+
     /// Adds a line; it may have line feeds inside.
     fn push(&mut self, line: &[u8]) {
         for part in line.split(|&byte| byte == b'\n') {
             self.answers.clear();
             self.replay.line(part, &mut self.answers);
+            self.keep_frames(part);
             self.keep_written(part);
         }
         self.text.extend_from_slice(line);
         self.text.push(b'\n');
+    }
+
+    /// Keeps the frame that the answer to this line handed out; where the line
+    /// began a pass, or powered up, fetches the first frames.
+    fn keep_frames(&mut self, line: &[u8]) {
+        let Some(&letter) = line.first() else {
+            return;
+        };
+        let mut fields = self.answers.trim_ascii_end().split(|&byte| byte == b' ');
+        let accepted = fields.next() == Some(&b"0"[..]);
+        match (letter, fields.next_back()) {
+            (b'R' | b'T', Some(b"done")) => self.frames[crate_in(line)] = None,
+            (b'R' | b'T', Some(digits)) => {
+                let frame = far_end::bytes_of(digits).try_into().expect("28 bytes");
+                self.frames[crate_in(line)] = Some(frame);
+            }
+            (b'C', Some(b"write" | b"ping")) => self.fetch_first_frames(),
+            (b'P', None) if accepted => self.fetch_first_frames(),
+            _ => {}
+        }
+    }
+
+    fn fetch_first_frames(&mut self) {
+        for crate_number in 0..CRATES {
+            let mut lent = [0; frames::BYTES];
+            let fetched = self.board().first_frame(crate_number as u8, &mut lent);
+            self.frames[crate_number] = fetched.ok().map(|()| lent);
+        }
     }
 
     /// Keeps what this line wrote, for the far end or the board to read.
@@ -193,7 +237,7 @@ impl Script {
     /// Lets the boards time out until no pass is under way.
     fn run_out(&mut self) {
         for crate_number in 0..CRATES as u8 {
-            while self.board().outstanding_frame(crate_number).is_ok() {
+            while self.frame(crate_number).is_some() {
                 self.push(&bytes_line(b'T', &[crate_number]));
             }
         }
@@ -295,22 +339,21 @@ fn mend(bytes: &mut [u8]) {
     }
 }
 
-/// The frame that a reply from this crate is made for: the outstanding one, or
+/// The frame that a reply from this crate is made for: the one handed out, or
 /// one of another time where there is none.
-fn frame_for(random: &mut Random, board: &Board, crate_number: u8) -> Frame {
-    match board.outstanding_frame(crate_number) {
-        Ok(frame) => *frame,
-        Err(_) => {
-            let crate_number = usize::from(crate_number) % CRATES;
-            let code = some_code(random);
-            frames::for_board(board.block(), crate_number, random.below(BOARDS_PER_CRATE), code)
-        }
-    }
+fn frame_for(random: &mut Random, script: &Script, crate_number: u8) -> Frame {
+    script.frame(crate_number).copied().unwrap_or_else(|| {
+        let crate_number = usize::from(crate_number) % CRATES;
+        let code = some_code(random);
+        let number = random.below(BOARDS_PER_CRATE);
+        frames::for_board(script.board().block(), crate_number, number, code)
+    })
 }
 
 /// A reply that is probably bad: one thing is wrong in an otherwise good one.
-fn odd_reply(random: &mut Random, board: &Board, crate_number: u8) -> Vec<u8> {
-    let sent = frame_for(random, board, crate_number);
+fn odd_reply(random: &mut Random, script: &Script, crate_number: u8) -> Vec<u8> {
+    let block = script.board().block();
+    let sent = frame_for(random, script, crate_number);
     let mut reply = good_reply(random, &sent);
     match random.below(14) {
         // One byte changed, the CRC left.
@@ -322,7 +365,7 @@ fn odd_reply(random: &mut Random, board: &Board, crate_number: u8) -> Vec<u8> {
             let code = some_code(random);
             let crate_of = random.below(CRATES);
             let number = random.below(BOARDS_PER_CRATE);
-            let other = frames::for_board(board.block(), crate_of, number, code);
+            let other = frames::for_board(block, crate_of, number, code);
             reply[5..26].copy_from_slice(&other[5..26]);
             mend(&mut reply);
         }
@@ -331,7 +374,7 @@ fn odd_reply(random: &mut Random, board: &Board, crate_number: u8) -> Vec<u8> {
             let code = some_code(random);
             let number = usize::from(sent[1] & 15) % BOARDS_PER_CRATE;
             let crate_of = usize::from(sent[1] >> 4) % CRATES;
-            let other = frames::for_board(board.block(), crate_of, number, code);
+            let other = frames::for_board(block, crate_of, number, code);
             reply = good_reply(random, &other);
         }
         13 => return some_bytes(random),
@@ -401,32 +444,44 @@ fn some_bytes(random: &mut Random) -> Vec<u8> {
     bytes
 }
 
-/// An item of a pass: a crate with a reply, or with a time-up.
+/// What an item of a pass is, beside its crate (02, d).
+pub enum ItemKind {
+    Reply(Vec<u8>),
+    TimeUp,
+    FirstFrame,
+}
+
+/// An item of a pass.
 pub struct Item {
     pub crate_number: u8,
-    pub reply: Option<Vec<u8>>,
+    pub kind: ItemKind,
 }
 
 impl Item {
     pub fn line(&self) -> Vec<u8> {
-        match &self.reply {
-            Some(reply) => reply_line(self.crate_number, reply),
-            None => bytes_line(b'T', &[self.crate_number]),
+        match &self.kind {
+            ItemKind::Reply(reply) => reply_line(self.crate_number, reply),
+            ItemKind::TimeUp => bytes_line(b'T', &[self.crate_number]),
+            ItemKind::FirstFrame => bytes_line(b'F', &[self.crate_number]),
         }
     }
 }
 
-/// An item for this crate: a good reply in `good` of 100 cases.
-fn item(random: &mut Random, board: &Board, crate_number: u8, good: usize) -> Item {
-    let reply = if random.chance(good) {
-        let sent = frame_for(random, board, crate_number);
-        Some(good_reply(random, &sent).to_vec())
+/// An item for this crate: a fetch of the first frame, more often while it is to
+/// be had; otherwise a good reply in `good` of 100 cases.
+fn item(random: &mut Random, script: &Script, crate_number: u8, good: usize) -> Item {
+    let fetch = if script.board().frames_sent(crate_number) == Ok(1) { 40 } else { 8 };
+    let kind = if random.chance(fetch) {
+        ItemKind::FirstFrame
+    } else if random.chance(good) {
+        let sent = frame_for(random, script, crate_number);
+        ItemKind::Reply(good_reply(random, &sent).to_vec())
     } else if random.chance(30) {
-        None
+        ItemKind::TimeUp
     } else {
-        Some(odd_reply(random, board, crate_number))
+        ItemKind::Reply(odd_reply(random, script, crate_number))
     };
-    Item { crate_number, reply }
+    Item { crate_number, kind }
 }
 
 /// A finished script.
@@ -547,7 +602,7 @@ fn reply_lengths(random: &mut Random, script: &mut Script) {
         }
         for length in 0..=60 {
             let crate_number = (length % CRATES) as u8;
-            let sent = frame_for(random, script.board(), crate_number);
+            let sent = frame_for(random, script, crate_number);
             let mut reply = good_reply(random, &sent).to_vec();
             reply.resize(length, 0);
             if length > 28 && random.chance(50) {
@@ -556,8 +611,8 @@ fn reply_lengths(random: &mut Random, script: &mut Script) {
             if random.chance(30) {
                 mend(&mut reply);
             }
-            script.push(&reply_line(crate_number, &reply));
             script.push(&bytes_line(b'F', &[crate_number]));
+            script.push(&reply_line(crate_number, &reply));
             script.push(&bytes_line(b'N', &[crate_number]));
         }
         script.push(&reply_line(4, &[0; 28]));
@@ -709,7 +764,7 @@ fn bounds(random: &mut Random, index: usize) -> Vec<u8> {
     trigger_bounds(random, &mut script);
     enter_some_state(random, &mut script);
     for crate_number in [0, 1, 2, 3, 4, 5, 255] {
-        for letter in *b"FNTRM" {
+        for letter in *b"FFNTFRFM" {
             script.push(&bytes_line(letter, &[crate_number]));
         }
     }
@@ -810,11 +865,10 @@ fn session_line(random: &mut Random, script: &Script) -> Vec<u8> {
         2 => clock_line(random),
         3 => trigger_line(random),
         4 => {
-            let crate_number = busy_crate(random, board);
-            let item = item(random, board, crate_number, 75);
-            item.line()
+            let crate_number = busy_crate(random, script);
+            item(random, script, crate_number, 75).line()
         }
-        5 => bytes_line(b'T', &[busy_crate(random, board)]),
+        5 => bytes_line(b'T', &[busy_crate(random, script)]),
         6 => bytes_line(b'F', &[crate_byte(random)]),
         7 => bytes_line(b'N', &[crate_byte(random)]),
         8 => b"S".to_vec(),
@@ -846,10 +900,10 @@ fn clock_line(random: &mut Random) -> Vec<u8> {
 }
 
 /// A crate with a frame outstanding, in most cases where there is one.
-fn busy_crate(random: &mut Random, board: &Board) -> u8 {
+fn busy_crate(random: &mut Random, script: &Script) -> u8 {
     for _ in 0..6 {
         let crate_number = crate_byte(random);
-        if board.outstanding_frame(crate_number).is_ok() {
+        if script.frame(crate_number).is_some() {
             return crate_number;
         }
     }
@@ -942,28 +996,36 @@ fn passes(random: &mut Random, _index: usize) -> Vec<u8> {
             script.command(&Command::Ping);
         }
         for crate_number in 0..4 {
-            script.push(&bytes_line(b'F', &[crate_number]));
+            if random.chance(50) {
+                script.push(&bytes_line(b'F', &[crate_number]));
+            }
             script.push(&bytes_line(b'N', &[crate_number]));
         }
         pass_lines(random, &mut script);
-        for ordinal in 0..=BOARDS as u8 {
-            script.push(&bytes_line(b'M', &[ordinal]));
-            if random.chance(20) {
-                far_end::read_back(random, &mut script, b'M');
-            }
-        }
-        for letter in *b"LS" {
-            script.push(&[letter]);
-            far_end::read_back(random, &mut script, letter);
-        }
-        for crate_number in 0..5 {
-            script.push(&bytes_line(b'N', &[crate_number]));
-        }
+        lines_after_pass(random, &mut script);
         if let Mode::Running(_) = script.mode() {
             script.command(&Command::Stop);
         }
     }
     script.text
+}
+
+/// Lines that show what a pass left.
+fn lines_after_pass(random: &mut Random, script: &mut Script) {
+    for ordinal in 0..=BOARDS as u8 {
+        script.push(&bytes_line(b'M', &[ordinal]));
+        if random.chance(20) {
+            far_end::read_back(random, script, b'M');
+        }
+    }
+    for letter in *b"LS" {
+        script.push(&[letter]);
+        far_end::read_back(random, script, letter);
+    }
+    for crate_number in 0..5 {
+        script.push(&bytes_line(b'F', &[crate_number]));
+        script.push(&bytes_line(b'N', &[crate_number]));
+    }
 }
 
 /// The lines of a pass to its end, and some more.
@@ -975,7 +1037,7 @@ fn pass_lines(random: &mut Random, script: &mut Script) {
         if !script.in_pass() {
             extra -= 1;
         }
-        open.retain(|&crate_number| script.board().outstanding_frame(crate_number).is_ok());
+        open.retain(|&crate_number| script.frame(crate_number).is_some());
         let crate_number = match random.below(30) {
             0 => 4 + random.below(252) as u8,
             1 => random.below(CRATES) as u8,
@@ -985,9 +1047,8 @@ fn pass_lines(random: &mut Random, script: &mut Script) {
             3..=12 => open[0],
             _ => open[random.below(open.len())],
         };
-        let item = item(random, script.board(), crate_number, good);
+        let item = item(random, script, crate_number, good);
         script.push_styled(random, &item.line());
-        script.push(&bytes_line(b'F', &[crate_number]));
         script.push(&bytes_line(b'N', &[crate_number]));
         if random.chance(25) {
             let other = match random.below(30) {
@@ -1268,10 +1329,10 @@ fn serve_pass(random: &mut Random, script: &mut Script, good: usize) {
     }
 }
 
-/// One reply or time-up of a pass.
+/// One item of a pass.
 fn pass_line(random: &mut Random, script: &mut Script, good: usize) {
-    let crate_number = busy_crate(random, script.board());
-    let item = item(random, script.board(), crate_number, good);
+    let crate_number = busy_crate(random, script);
+    let item = item(random, script, crate_number, good);
     script.push(&item.line());
 }
 
@@ -1331,10 +1392,10 @@ fn pass_items(random: &mut Random, script: &mut Script) -> Vec<Item> {
         let crate_number = match random.below(12) {
             0 => crate_byte(random),
             1 => random.below(256) as u8,
-            2..=4 => (0..4).find(|&c| script.board().outstanding_frame(c).is_ok()).unwrap_or(0),
-            _ => busy_crate(random, script.board()),
+            2..=4 => (0..4).find(|&c| script.frame(c).is_some()).unwrap_or(0),
+            _ => busy_crate(random, script),
         };
-        let item = item(random, script.board(), crate_number, good);
+        let item = item(random, script, crate_number, good);
         script.push(&item.line());
         items.push(item);
     }
@@ -1380,6 +1441,33 @@ mod tests {
         for number in 16..32 {
             assert!(script(5, number).text == script(5, number).text);
         }
+    }
+
+    /// The frames in hand are those that wait for a reply: good replies to them, and
+    /// no others, serve a pass to its end.
+    #[test]
+    fn replies_to_the_frames_in_hand() {
+        let mut random = Random::new(6);
+        let random = &mut random;
+        let mut script = Script::new();
+        let mut block = random_block(random);
+        block[ACTIVE..].fill(0x03FF);
+        for command in [Command::Write(&block), Command::Ping] {
+            script.command(&command);
+            for crate_number in (0..CRATES as u8).cycle().take(CRATES * 3 * BOARDS_PER_CRATE) {
+                let Some(sent) = script.frame(crate_number).copied() else {
+                    continue;
+                };
+                let reply = good_reply(random, &sent);
+                script.push_styled(random, &reply_line(crate_number, &reply));
+                assert!(script.answers.starts_with(b"0 good "));
+            }
+            assert_eq!(script.mode(), Mode::Idle);
+        }
+        script.command(&Command::Ping);
+        assert!(script.frame(0).is_some());
+        script.push(&power_up_line(0, 0));
+        assert!(script.frame(0).is_none());
     }
 
     #[test]

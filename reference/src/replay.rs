@@ -3,8 +3,9 @@
 use std::io::Write;
 
 use crate::blocks::{self, Kind};
-use crate::board::{Board, Done, Outcome};
+use crate::board::{Answer, Board, Done, Outcome};
 use crate::commands::{self, Command, Events, ReadBlock};
+use crate::frames::{self, Frame};
 use crate::packets::{self, Trigger};
 use crate::{configuration, Refusal};
 
@@ -97,14 +98,8 @@ impl Replay {
             }
             b'G' => return self.trigger(out),
             b'R' => self.reply(out),
-            b'T' => {
-                let answer = self.board.time_up(self.byte(0));
-                print_answer(answer, out);
-            }
-            b'F' => match self.board.outstanding_frame(self.byte(0)) {
-                Ok(frame) => print_bytes(frame, out),
-                Err(refusal) => print_refusal(refusal, out),
-            },
+            b'T' => self.time_up(out),
+            b'F' => self.first_frame(out),
             b'N' => match self.board.frames_sent(self.byte(0)) {
                 Ok(number) => print_text(out, format_args!("0 {number}")),
                 Err(refusal) => print_refusal(refusal, out),
@@ -176,8 +171,23 @@ impl Replay {
 
     fn reply(&mut self, out: &mut Vec<u8>) {
         self.read_bytes();
-        let answer = self.board.reply(self.bytes[0], &self.bytes[1..]);
-        print_answer(answer, out);
+        let mut lent = [0; frames::BYTES];
+        let answer = self.board.reply(self.bytes[0], &self.bytes[1..], &mut lent);
+        print_answer(answer, &lent, out);
+    }
+
+    fn time_up(&mut self, out: &mut Vec<u8>) {
+        let mut lent = [0; frames::BYTES];
+        let answer = self.board.time_up(self.byte(0), &mut lent);
+        print_answer(answer, &lent, out);
+    }
+
+    fn first_frame(&self, out: &mut Vec<u8>) {
+        let mut lent = [0; frames::BYTES];
+        match self.board.first_frame(self.byte(0), &mut lent) {
+            Ok(()) => print_bytes(&lent, out),
+            Err(refusal) => print_refusal(refusal, out),
+        }
     }
 
     fn block(&mut self, letter: u8, out: &mut Vec<u8>) {
@@ -322,16 +332,20 @@ fn print_refusal(refusal: Refusal, out: &mut Vec<u8>) {
     }
 }
 
-fn print_answer(answer: Result<crate::board::Answer, Refusal>, out: &mut Vec<u8>) {
+/// The answer to a reply or a time-up, with the frame that was handed out where
+/// the crate is not done.
+fn print_answer(answer: Result<Answer, Refusal>, next: &Frame, out: &mut Vec<u8>) {
     match answer {
         Ok(answer) => {
             out.extend_from_slice(match answer.outcome {
-                Outcome::Good => b"0 good",
-                Outcome::Again => b"0 again",
-                Outcome::Failed => b"0 failed",
+                Outcome::Good => b"0 good ",
+                Outcome::Again => b"0 again ",
+                Outcome::Failed => b"0 failed ",
             });
             if answer.done {
-                out.extend_from_slice(b" done");
+                out.extend_from_slice(b"done");
+            } else {
+                push_bytes(next, out);
             }
         }
         Err(refusal) => print_refusal(refusal, out),
@@ -407,7 +421,8 @@ mod tests {
              F00\nN00\nN04\nT00\nT04\nC00400010000000000000\n{write}\nL\nM00\nC00400020000400000000"
         );
         let expected = "1 0\n0 5 read static\n0 5 read dynamic\n0 5 ping\n\
-             0 4000C00004000000000000000000000000000000000000000000001B\n0 1\n11\n0 again\n11\n\
+             0 4000C00004000000000000000000000000000000000000000000001B\n0 1\n11\n\
+             0 again 4000C00004000000000000000000000000000000000000000000001B\n11\n\
              9 5\n9 441\n9\n9\n9 5\n";
         assert_eq!(run(&script), expected);
         assert_eq!(
@@ -419,6 +434,69 @@ mod tests {
              C00400004000100000000"
         );
         assert_eq!(run(&run_script), "0 441 write\n0 7 start\n0 0100000010007E\n16\n10 5\n");
+    }
+
+    /// The digits of the frame to a board whose words are zero.
+    fn frame(crate_number: usize, board: usize, code: u8) -> String {
+        let mut digits = Vec::new();
+        push_bytes(&frames::write(crate_number, board, code, &[0; 10]), &mut digits);
+        String::from_utf8(digits).unwrap()
+    }
+
+    /// Obeys the lines and compares what each prints.
+    fn check_lines(rows: &[(&str, &str)]) {
+        let lines: Vec<&str> = rows.iter().map(|row| row.0).collect();
+        let printed: String = rows.iter().map(|row| format!("{}\n", row.1)).collect();
+        assert_eq!(run(&lines.join("\n")), printed);
+    }
+
+    #[test]
+    fn replies_and_first_frames() {
+        // Board 3 of crate 0 answers, board 5 of crate 2 does not.
+        let write = format!("C00400002000100000000{}0008000000200000", "0000".repeat(432));
+        let dacs = "4003C00001000000000000000000000000000000000000000000003F";
+        let [enables, prescaling] = [2, 3].map(|code| frame(0, 3, code));
+        check_lines(&[
+            ("F00", "12"),
+            (&write, "0 441 write"),
+            ("F00", &format!("0 {dacs}")),
+            ("F 0 0", &format!("0 {dacs}")),
+            ("F01", "12"),
+            ("F04", "11"),
+            (
+                "R0040C00300010000000000000000000000000000000000000000000096",
+                &format!("0 good {enables}"),
+            ),
+            ("F00", "12"),
+            ("F02", &format!("0 {}", frame(2, 5, 1))),
+            ("T02", &format!("0 again {}", frame(2, 5, 1))),
+            ("R02", &format!("0 again {}", frame(2, 5, 1))),
+            ("T02", "0 failed done"),
+            ("T02", "12"),
+            ("R02", "12"),
+            ("R04", "11"),
+            ("T04", "11"),
+            ("T00", &format!("0 again {enables}")),
+            (
+                "R0040C0030002000000000000000000000000000000000000000000005A",
+                &format!("0 good {prescaling}"),
+            ),
+            ("R0040C003000300000000000000000000000000000000000000000000E3", "0 good done"),
+            ("F00", "12"),
+        ]);
+    }
+
+    #[test]
+    fn frames_of_a_ping() {
+        let [first, second] = [0, 1].map(|board| frame(3, board, frames::PING));
+        check_lines(&[
+            ("C00400010000000000000", "0 5 ping"),
+            ("F03", &format!("0 {first}")),
+            ("R03", &format!("0 again {first}")),
+            ("T03", &format!("0 again {first}")),
+            ("R0340", &format!("0 failed {second}")),
+            ("F03", "12"),
+        ]);
     }
 
     #[test]

@@ -1,4 +1,5 @@
--- Demand 3 (`demand-3`): after an accepted write or ping, any order of replies and time-ups gets what the crates get one by one.
+-- Demand 3 (`demand-3`): after an accepted write or ping, any order of replies, time-ups and fetches of first frames gets what the crates get
+-- one by one.
 -- Assumes nothing.
 use Prim.Native.Nat.{ℕ, _<_}
 use mathlib.Core.Path.{_≡_, refl, sym, ap, ap₂, _∙_, subst}
@@ -12,17 +13,18 @@ use Rattle.board.specs.declared.Board.{Board}
 use Rattle.cells.specs.Order.{only, from, ordered}
 use Rattle.cells.proofs.Order.{only-ordered}
 use Rattle.cells.proofs.Cells.{turned, in-order-out, in-order-end, out-from, out, end}
-use Rattle.any_order.specs.Steps.{Event, Result, refusal}
+use Rattle.any_order.specs.Steps.{Lending, Result}
 use Rattle.any_order.specs.AnyOrder.{Item, ItemResult, itemCrate, resultCrate, Begin, Accepted, startOf, begunBoard}
-use Rattle.any_order.specs.AnyOrder.{fetched, results, final, framesIn, framesOn, allDone, refusedAll, AnyOrder}
+use Rattle.any_order.specs.AnyOrder.{outstanding, results, final, framesIn, framesOn, allDone, refusedAll, AnyOrder}
+use Rattle.any_order.proofs.Served.{noSuch}
 use Rattle.any_order.proofs.Begun.{begunCrates, four, start-is, still-after}
 use Rattle.any_order.proofs.OneCrate.{stepCells, final-is, results-are, crates-are, alone}
 use Rattle.any_order.proofs.SentOut.{in-pass, failures-are, records-given, records-most, list-is, list-given, list-begun}
 
-turned-refused : (f : ℕ → Crate → Event → Result × Crate) (xs : List Item) → turned noCrate f (refusal 11) xs ≡ refusedAll xs
+turned-refused : (f : ℕ → Crate → Lending → Result × Crate) (xs : List Item) → turned noCrate f noSuch xs ≡ refusedAll xs
 unfolding turned refusedAll
 turned-refused f [] = refl
-turned-refused f (x ∷ xs) = ap (λ (l : List ItemResult). (x, refusal 11) ∷ l) (turned-refused f xs)
+turned-refused f (x ∷ xs) = ap (λ (l : List ItemResult). (x, noSuch (x .1)) ∷ l) (turned-refused f xs)
 
 double-not : (t : Bool) → not (not t) ≡ t
 double-not true = refl
@@ -38,36 +40,37 @@ module _ (β : Board) (g : Begin) (a : Accepted β g) (xs : List Item) where
   abbrev cs : List Crate
   cs = begunCrates β g
 
-  abbrev step : ℕ → Crate → Event → Result × Crate
+  abbrev step : ℕ → Crate → Lending → Result × Crate
   step = stepCells β g a
 
-  -- the same answers and frames, and the same state
+  -- the same answers, bytes and frames, and the same state
   answers-are : results start second ≡ ordered resultCrate 4 (results start xs)
   answers-are =
       results-are β g a second
-      ∙ subst (λ n. out noCrate step (refusal 11) cs (ordered itemCrate n xs) ≡ ordered resultCrate n (out noCrate step (refusal 11) cs xs)) (four β g)
-      (in-order-out noCrate step (refusal 11) cs xs)
+      ∙ subst (λ n. out noCrate step noSuch cs (ordered itemCrate n xs) ≡ ordered resultCrate n (out noCrate step noSuch cs xs)) (four β g)
+      (in-order-out noCrate step noSuch cs xs)
       ∙ ap (ordered resultCrate 4) (sym (results-are β g a xs))
 
   state-is : final start second ≡ final start xs
   state-is =
       final-is β g a second
-      ∙ ap (begunBoard β g) (subst (λ n. end noCrate step (refusal 11) cs (ordered itemCrate n xs) ≡ end noCrate step (refusal 11) cs xs) (four β g)
-      (in-order-end noCrate step (refusal 11) cs xs))
+      ∙ ap (begunBoard β g) (subst (λ n. end noCrate step noSuch cs (ordered itemCrate n xs) ≡ end noCrate step noSuch cs xs) (four β g)
+      (in-order-end noCrate step noSuch cs xs))
       ∙ sym (final-is β g a xs)
 
   -- the items for no crate
   above-are : from resultCrate 4 (results start xs) ≡ refusedAll (from itemCrate 4 xs)
   above-are =
       ap (from resultCrate 4) (results-are β g a xs)
-      ∙ subst (λ n. from resultCrate n (out noCrate step (refusal 11) cs xs) ≡ turned noCrate step (refusal 11) (from itemCrate n xs)) (four β g)
-      (out-from noCrate step (refusal 11) cs xs)
+      ∙ subst (λ n. from resultCrate n (out noCrate step noSuch cs xs) ≡ turned noCrate step noSuch (from itemCrate n xs)) (four β g)
+      (out-from noCrate step noSuch cs xs)
       ∙ turned-refused step (from itemCrate 4 xs)
 
   -- the same frames
   frames-are : (c : ℕ) → c < 4 → framesOn β g c second ≡ framesOn β g c xs
   frames-are c h =
-      ap (λ (ts : List ItemResult). fetched start c ++ framesIn ts) (ap (only resultCrate c) answers-are ∙ only-ordered resultCrate c 4 (results start xs) h)
+      ap (λ (ts : List ItemResult). outstanding start c ++ framesIn ts)
+      (ap (only resultCrate c) answers-are ∙ only-ordered resultCrate c 4 (results start xs) h)
 
   -- the state that the command returned
   start-kept : start ≡ begunBoard β g (start .crates)

@@ -18,10 +18,10 @@ use Rattle.acceptance.proofs.Deciding.{obeyed-now, obeyed-read}
 use Rattle.board.specs.State.{crateAt, statusOf, withCrates}
 use Rattle.board.specs.Commands.{written, pinged, afterCommand}
 use Rattle.board.specs.declared.Board.{Board}
-use Rattle.any_order.specs.Steps.{Step, step, steps, first}
-use Rattle.any_order.specs.AnyOrder.{Begin, write, ping, Accepted, startOf, kindOf, storedBlock, wordOf, begunBoard}
+use Rattle.any_order.specs.Steps.{Step, step, steps, Pass, first}
+use Rattle.any_order.specs.AnyOrder.{Begin, write, ping, Accepted, startOf, kindOf, storedBlock, wordOf, begunBoard, stepOf}
 use Rattle.any_order.proofs.Places.{first-at, begun-todo}
-use Rattle.any_order.proofs.Follows.{view-begun, fit-begun}
+use Rattle.any_order.proofs.Follows.{view-first, view-begun, fit-begun}
 use Rattle.any_order.proofs.Frames.{bound-begun}
 use Rattle.any_order.proofs.Runs.{Runs}
 
@@ -88,7 +88,14 @@ sent-begun kind w k =
     ∙ ap length (first-at kind w (nextBoard kind w 0) (firstCode kind) ∙ ap first (begun-todo kind w))
 
 pub runs-begun : (kind : PassKind) (w : ℕ) (k : Crate) → Runs kind w (begunCrate kind w k)
-runs-begun kind w k = record { fit = fit-begun kind w k; bound = rw (view-begun kind w k, sent-begun kind w k) (bound-begun (steps kind w)) }
+runs-begun kind w k =
+    let first-is : stepOf (begunCrate kind w k) ≡ first (steps kind w) =
+    view-first kind w (begunCrate kind w k) ∙ ap (λ (p : Pass). first (p .todo)) (view-begun kind w k) in
+    record {
+      fit = fit-begun kind w k;
+      bound = rw (view-begun kind w k, sent-begun kind w k) (bound-begun (steps kind w));
+      one = rw (first-is, sent-begun kind w k) (omega arith);
+    }
 
 -- ---- a board in a pass that has just begun: on four crates, while no run is on
 

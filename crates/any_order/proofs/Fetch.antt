@@ -1,84 +1,91 @@
--- The frames of demand 3 are those that the public fetch of the outstanding frame gives (`fetch-gives`).
+-- The frame outstanding on a crate of the board is that of the crate's step (`outstanding-step`); the first frame's fetch on a crate is one on the pass
+-- (`fetch-follows`).
 -- Assumes nothing.
-use Prim.Native.Nat.{ℕ, _<_, _≤_}
-use mathlib.Core.Path.{_≡_, refl, sym, ap}
+use Prim.Native.Nat.{ℕ, _+_, _<_, _≤_}
+use mathlib.Core.Path.{_≡_, refl, sym, ap, _∙_}
 use mathlib.Core.List.{List, [], _∷_, _++_, map}
-use mathlib.Core.Bool.{Bool, true, false, cond}
+use mathlib.Core.Bool.{Bool, true, false, cond, _||_}
 use native.Mathlib.Omega.{arith}
 use lib.Dec.{ltb, leb}
-use lib.ListN.{length, take, drop}
+use lib.ListN.{length, drop}
 use borrow.Author.Tests.{ltb-true, ltb-false, le-ltb, lt-leb, le-leb}
-use Rattle.refusals.specs.Tables.{given, refused, Rule, rule, lowest}
-use Rattle.refusals.specs.Writing.{writingBy, writingRules, writing, Wrote}
-use Rattle.refusals.specs.declared.Written.the-variants.{Length}
-use Rattle.refusals.proofs.Tables.{Clear, clear-given, given-clear, clear-front}
-use Rattle.refusals.proofs.Writing.{wrote, wrote-front}
-use Rattle.steps.proofs.Lengths.{step-length}
+use Rattle.refusals.specs.Tables.{Answer, given, refused}
+use Rattle.refusals.specs.Writing.{outputAfter}
 use Rattle.steps.specs.Steps.{stepFrame}
+use Rattle.crate_pass.specs.Crate.{isDone}
+use Rattle.crate_pass.specs.declared.PassKind.{PassKind}
+use Rattle.crate_pass.specs.declared.Crate.{Crate}
 use Rattle.board.specs.State.{crateAt}
-use Rattle.board.specs.SlowControl.{fetchRules, frameAt}
+use Rattle.board.specs.SlowControl.{frameAt}
 use Rattle.board.specs.declared.Board.{Board}
-use Rattle.any_order.specs.Steps.{Step, step}
-use Rattle.any_order.specs.AnyOrder.{framesGiven, fetched, stepOf}
-
--- ---- the frame fetched on a crate is that of its outstanding step
+use Rattle.any_order.specs.Steps.{Step, step, Pass, Given, firstFrame, Result, refusal, fetchTo}
+use Rattle.any_order.specs.AnyOrder.{outstanding, resultFor, stepOf}
+use Rattle.any_order.proofs.Places.{later, Place, at, past, place}
+use Rattle.any_order.proofs.Sent.{countedOf, Numbered, counted-here}
+use Rattle.any_order.proofs.Follows.{view, view-here, view-past}
 
 -- the bytes of a step's frame on crate c, with the block
 abbrev pub frameIn : List ℕ → ℕ → Step → List ℕ
 frameIn block c s = stepFrame block c (s .board) (s .code)
 
-pub fetched-step : (β : Board) (c : ℕ) → c < 4 → fetched β c ≡ map (frameIn (β .block) c) (stepOf (crateAt β c))
-unfolding fetched frameAt stepOf
-fetched-step β c h = let l : c ≤ 3 = omega arith in rw (le-ltb _ _ l) (go (ltb (crateAt β c .board) 10) refl)
+pub outstanding-step : (β : Board) (c : ℕ) → c < 4 → outstanding β c ≡ map (frameIn (β .block) c) (stepOf (crateAt β c))
+unfolding outstanding frameAt stepOf
+outstanding-step β c h = let l : c ≤ 3 = omega arith in rw (le-ltb _ _ l) (go (ltb (crateAt β c .board) 10) refl)
   where
     go : (t : Bool) → ltb (crateAt β c .board) 10 ≡ t
-        → framesGiven (cond (leb 10 (crateAt β c .board)) (refused 12 0) (given (stepFrame (β .block) c (crateAt β c .board) (crateAt β c .code))))
+        → cond (leb 10 (crateAt β c .board)) [] (stepFrame (β .block) c (crateAt β c .board) (crateAt β c .code) ∷ [])
         ≡ map (frameIn (β .block) c) (cond t (step (crateAt β c .board) (crateAt β c .code) ∷ []) [])
     go true e = rw (lt-leb _ _ (ltb-true _ _ e))
     go false e = rw (le-leb _ _ (ltb-false _ _ e))
 
--- ---- what the fetch gives
+-- ---- the fetch
 
-length-frame : (β : Board) (c : ℕ) → length (frameAt β c) ≡ 28
-unfolding frameAt
-length-frame β c = step-length (β .block) c (crateAt β c .board) (crateAt β c .code)
+-- what a crate answers to it: 12, then 19
+unfoldable pub fetchAnswer : Crate → List ℕ → Answer Given
+fetchAnswer k lent = cond (isDone k || ltb 1 (k .sent)) (refused 12 0) (cond (ltb (length lent) 28) (refused 19 0) (given firstFrame))
 
-clear-fetched : (rs : List Rule) (f : List ℕ) → framesGiven (lowest rs f) ≡ f ∷ [] → Clear rs
-clear-fetched [] f e = tt
-clear-fetched (r ∷ rs) f e = go (clear-fetched rs f) (r .applies) refl
-  where
-    go : (framesGiven (lowest rs f) ≡ f ∷ [] → Clear rs) → (t : Bool) → r .applies ≡ t → Clear (r ∷ rs)
-    go next true p = absurd (let n : 0 ≡ 1 = ap length (simp p at e) in omega arith)
-    go next false p = (p, next (simp p at e))
+abbrev pub fetchResult : (Step → List ℕ) → List ℕ → Crate → Result
+fetchResult frame lent k = resultFor (fetchAnswer k lent) (outputAfter (fetchAnswer k lent) (frame (step (k .board) (k .code))) lent) []
 
--- What is fetched on crate c, where 28 bytes or more are lent. The fetch's contract is `Wrote (fetchRules β c) (frameAt β c) out r after`
-pub record FetchGives (β : Board) (c : ℕ) (out : List ℕ) : Type 0 where
-  -- it gives 28 bytes exactly where the claim has a frame
-  pub gives : fetched β c ≡ frameAt β c ∷ [] → writing (fetchRules β c) (frameAt β c) out ≡ given 28
-  pub gives-only : (n : ℕ) → writing (fetchRules β c) (frameAt β c) out ≡ given n → fetched β c ≡ frameAt β c ∷ []
-  -- and the lent bytes then begin with that frame
-  pub front : (n : ℕ) (after : List ℕ) → Wrote (fetchRules β c) (frameAt β c) out (Length n) after → take n after ≡ frameAt β c
+module _ (frame : Step → List ℕ) (size : (s : Step) → length (frame s) ≡ 28) (kind : PassKind) (w : ℕ) (lent : List ℕ) (k : Crate) (num : Numbered k) where
+  abbrev p : Pass
+  p = view kind w k
 
-given-fetched : (β : Board) (c n : ℕ) (out : List ℕ) → writing (fetchRules β c) (frameAt β c) out ≡ given n
-    → fetched β c ≡ frameAt β c ∷ []
-unfolding fetched writingBy writingRules
-given-fetched β c n out e =
-    let table = writingRules (fetchRules β c) (frameAt β c) out in
-    let clear : Clear table = given-clear table (length (frameAt β c)) n e in
-    ap framesGiven
-    (clear-given (fetchRules β c) (frameAt β c) (clear-front (fetchRules β c) (rule 19 (ltb (length out) (length (frameAt β c))) ∷ []) clear))
+  fetch-none : fetchTo frame lent p [] ≡ refusal 12 lent
+  unfolding fetchTo
+  fetch-none = refl
 
-fetched-given : (β : Board) (c : ℕ) (out : List ℕ) → 28 ≤ length out → fetched β c ≡ frameAt β c ∷ []
-    → writing (fetchRules β c) (frameAt β c) out ≡ given 28
-unfolding fetched
-fetched-given β c out h e =
-    let clear : Clear (fetchRules β c) = clear-fetched (fetchRules β c) (frameAt β c) e in
-    sym (wrote (fetchRules β c) (frameAt β c) out clear 28 (length-frame β c) (frameAt β c ++ drop 28 out) h refl .answer)
+  -- with a frame outstanding, by whether one more than it was sent, and whether too few bytes are lent
+  fetch-here : k .board < 10 → fetchResult frame lent k ≡ fetchTo frame lent p (step (k .board) (k .code) ∷ later kind w (k .board) (k .code))
+  unfolding fetchTo fetchAnswer view
+  fetch-here b = rw (lt-leb _ _ b) (go (ltb 1 (k .sent)) (ltb 0 (countedOf k)) (ltb (length lent) 28) refl refl)
+    where
+      f : List ℕ
+      f = frame (step (k .board) (k .code))
 
-pub fetch-gives : (β : Board) (c : ℕ) (out : List ℕ) → 28 ≤ length out → FetchGives β c out
-fetch-gives β c out h =
-    record {
-      gives = fetched-given β c out h;
-      gives-only = λ n e. given-fetched β c n out e;
-      front = λ n after w. wrote-front _ (frameAt β c) out n after w;
-    }
+      by : Bool → Bool → Answer Given
+      by t v = cond t (refused 12 0) (cond v (refused 19 0) (given firstFrame))
+
+      go : (t u v : Bool) → ltb 1 (k .sent) ≡ t → ltb 0 (countedOf k) ≡ u
+          → resultFor (by t v) (outputAfter (by t v) f lent) []
+          ≡ cond u (refusal 12 lent) (cond v (refusal 19 lent) (record { answer = given firstFrame; bytes = f ++ drop 28 lent; frames = [] }))
+      go true true v x y = refl
+      go true false v x y =
+          absurd (let a : 1 < k .sent = ltb-true _ _ x in let c : countedOf k ≤ 0 = ltb-false _ _ y in let e = counted-here k b num in
+          let z : ⊥ = omega arith in z)
+      go false true v x y =
+          absurd (let a : k .sent ≤ 1 = ltb-false _ _ x in let c : 0 < countedOf k = ltb-true _ _ y in let e = counted-here k b num in
+          let z : ⊥ = omega arith in z)
+      go false false true x y = refl
+      go false false false x y = ap (λ (n : ℕ). resultFor (given firstFrame) (f ++ drop n lent) []) (size (step (k .board) (k .code)))
+
+  fetch-past : 10 ≤ k .board → fetchResult frame lent k ≡ refusal 12 lent
+  unfolding fetchAnswer
+  fetch-past b = rw (le-leb _ _ b)
+
+  pub fetch-follows : fetchResult frame lent k ≡ fetchTo frame lent p (p .todo)
+  fetch-follows = go (place (k .board))
+    where
+      go : Place (k .board) → fetchResult frame lent k ≡ fetchTo frame lent p (p .todo)
+      go (at b) = fetch-here b ∙ sym (ap (fetchTo frame lent p) (view-here frame kind w lent k b))
+      go (past b) = fetch-past b ∙ sym (ap (fetchTo frame lent p) (view-past frame kind w lent k b) ∙ fetch-none)

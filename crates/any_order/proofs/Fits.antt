@@ -2,13 +2,15 @@
 -- Assumes nothing.
 use Prim.Native.Nat.{ℕ, _+_, _<_, _≤_}
 use mathlib.Core.Path.{_≡_, _∙_}
+use mathlib.Core.List.{List}
 use native.Mathlib.Omega.{arith}
 use lib.ListN.{length, length-set}
 use Rattle.steps.specs.declared.Judged.{Judged}
-use Rattle.crate_pass.specs.Crate.{nextBoard, placed, advanced, withEntry, withRecord, crateAfter}
+use Rattle.crate_pass.specs.Crate.{nextBoard, placed, advanced, withEntry, withRecord}
 use Rattle.crate_pass.proofs.After.{after-any}
 use Rattle.crate_pass.specs.declared.PassKind.{PassKind}
 use Rattle.crate_pass.specs.declared.Crate.{Crate}
+use Rattle.crate_pass.proofs.Answered.{crateAfter}
 use Rattle.any_order.proofs.Places.{Code, one, two, three, four, first-code, next-least}
 use Rattle.any_order.proofs.Kept.{NoneFrom, none-after}
 use Rattle.any_order.proofs.Follows.{Fit, nonzero}
@@ -39,14 +41,15 @@ module _ (kind : PassKind) (w : ℕ) (k : Crate) (fit : Fit kind k) where
       fit-advanced kind w (withRecord k) b (length-set (k .failed) (k .board) (k .code) ∙ fit .ten)
       (none-after (k .failed) (k .board) (k .code) (rw (fit .ten) b) (nonzero (fit .code)) (fit .clear))
 
-  pub fit-kept : (h : Judged) → Fit kind (crateAfter kind w k h)
+  pub fit-kept : (h : Judged) (lent : List ℕ) → Fit kind (crateAfter kind w k h lent)
   unfolding placed withEntry
-  fit-kept h =
+  fit-kept h lent =
       after-any kind w k h (Fit kind)
       (record {
-        done = fit;
+        same = fit;
         next-step = λ b g l. record { code = next-code (fit .code) l; low = omega arith; ten = fit .ten; clear = fit .clear };
         next-board = λ b g l. fit-onward h b;
         again = λ b l. record { code = fit .code; low = omega arith; ten = fit .ten; clear = fit .clear };
         failed = λ b l. fit-record b;
       })
+      lent

@@ -1,19 +1,26 @@
--- The frames of a pass: at most three for each of its steps (`frames-bounded`), and one for each accepted reply or time-up (`frames-accepted`).
+-- The frames of a pass: at most three for each of its steps (`bound-kept`), one for each accepted reply or time-up (`frames-accepted`), and those that
+-- are handed out (`frames-handed`, `frames-fetched`).
 -- Assumes nothing.
-use Prim.Native.Nat.{ℕ, zero, suc, _+_, _*_, _<_, _≤_}
-use mathlib.Core.Path.{_≡_, refl, ap}
+use Prim.Native.Nat.{ℕ, zero, suc, _+_, _*_, _≤_}
+use mathlib.Core.Path.{_≡_, refl, sym, ap, ap₂, _∙_}
 use mathlib.Core.List.{List, [], _∷_, _++_, map}
 use mathlib.Core.Bool.{Bool, true, false, cond}
 use native.Mathlib.Omega.{arith}
-use lib.ListN.{length, length-append, length-map}
-use lib.Dec.{ltb, eqb}
-use borrow.Author.Tests.{ltb-true}
+use lib.ListN.{length, drop, length-append, length-map}
+use lib.Seq.{take-at}
+use lib.Dec.{eqb}
+use borrow.Author.Tests.{le-ltb}
+use Rattle.refusals.specs.Tables.{given}
+use Rattle.crate_pass.specs.Crate.{saysDone}
 use Rattle.crate_pass.specs.declared.PassKind.{PassKind}
 use Rattle.crate_pass.specs.declared.PassKind.the-variants.{Reprogramming, Ping}
+use Rattle.crate_pass.specs.declared.Outcome.{Outcome}
 use Rattle.crate_pass.specs.declared.Outcome.the-variants.{Good, Again, BoardFailed}
-use Rattle.any_order.specs.Steps.{Step, isServed, boardSteps, stepsFrom, steps, servedFrom, Event, judged, Found, Pass, pass, begun, Result}
-use Rattle.any_order.specs.Steps.{first, others, foundBy, says, reactTo, react}
+use Rattle.any_order.specs.Steps.{Step, isServed, boardSteps, stepsFrom, steps, servedFrom, judged, fetch, Lending, Found, Pass, pass, begun}
+use Rattle.any_order.specs.Steps.{outcome, Result, first, none, others, foundBy, handedOver, fetchTo, react}
 use Rattle.any_order.specs.AnyOrder.{Item, isAccepted, passEnd, passResults, framesIn, acceptedIn, mostFrames}
+use Rattle.any_order.specs.AnyOrder.{seenOf, handedOutBy, fetchedBy, handedOutIn, fetchedIn, EachIs}
+use Rattle.any_order.proofs.Reacting.{react-any}
 
 -- ---- at most three frames for each step
 
@@ -41,32 +48,31 @@ abbrev pub firstFrame : (Step → List ℕ) → List Step → List (List ℕ)
 firstFrame frame ss = map frame (first ss)
 
 module _ (frame : Step → List ℕ) (most : ℕ) where
-  moved-bound : (n m : ℕ) (failed : List Step) (boards : List Found) (ss : List Step) → n + 3 * suc m ≤ 3 * most + 3 → length ss ≤ m
-      → Bound most (n + length (firstFrame frame ss)) (pass ss 0 failed boards)
-  moved-bound n m failed boards [] h l = record { low = omega arith; count = omega arith }
-  moved-bound n m failed boards (s ∷ ss) h l = record { low = omega arith; count = omega arith }
+  moved-bound : (n m counted : ℕ) (failed : List Step) (boards : List Found) (ss : List Step) → n + 3 * suc m ≤ 3 * most + 3 → length ss ≤ m
+      → Bound most (n + length (firstFrame frame ss)) (pass ss 0 failed boards counted)
+  moved-bound n m counted failed boards [] h l = record { low = omega arith; count = omega arith }
+  moved-bound n m counted failed boards (s ∷ ss) h l = record { low = omega arith; count = omega arith }
 
-  -- what a step gives, by whether the reply was good, and whether there is another send
-  abbrev pub byTests : Event → Pass → Step → List Step → Bool → Bool → Result × Pass
-  byTests e p s ss t u =
-      cond t (says frame Good (pass ss 0 (p .failed) (foundBy s (p .tries) (judged (frame s) e) (p .boards))))
-      (cond u (says frame Again (pass (s ∷ ss) (p .tries + 1) (p .failed) (p .boards)))
-      (says frame BoardFailed (pass (others (s .board) ss) 0 (p .failed ++ (s ∷ [])) (p .boards))))
-
-  react-bound : (n : ℕ) (e : Event) (p : Pass) (todo : List Step) → p .todo ≡ todo → p .tries ≤ 2 → n + 3 * length todo ≤ 3 * most + spent todo (p .tries)
-      → Bound most (n + length (reactTo frame e p todo .0 .frames)) (reactTo frame e p todo .1)
-  unfolding reactTo
-  react-bound n e p [] q l h = record { low = l; count = rw q (omega arith) }
-  react-bound n e p (s ∷ ss) q l h = go (judged (frame s) e .good) (ltb (p .tries) 2) refl
-    where
-      go : (t u : Bool) → ltb (p .tries) 2 ≡ u → Bound most (n + length (byTests e p s ss t u .0 .frames)) (byTests e p s ss t u .1)
-      go true u x = moved-bound n (length ss) (p .failed) (foundBy s (p .tries) (judged (frame s) e) (p .boards)) ss (omega arith) (omega arith)
-      go false true x = let k : p .tries < 2 = ltb-true _ _ x in record { low = omega arith; count = omega arith }
-      go false false x =
-          moved-bound n (length ss) (p .failed ++ (s ∷ [])) (p .boards) (others (s .board) ss) (omega arith) (others-length (s .board) ss)
-
-  pub bound-kept : (n : ℕ) (e : Event) (p : Pass) → Bound most n p → Bound most (n + length (react frame e p .0 .frames)) (react frame e p .1)
-  bound-kept n e p b = react-bound n e p (p .todo) refl (b .low) (b .count)
+  pub bound-kept : (n : ℕ) (x : Lending) (p : Pass) → Bound most n p → Bound most (n + length (react frame x p .0 .frames)) (react frame x p .1)
+  bound-kept n x p b =
+      react-any frame (x .1) p (λ (r : Result × Pass). Bound most (n + length (r .0 .frames)) (r .1))
+      (record {
+        refused = λ m. record { low = b .low; count = omega (arith, b .count) };
+        good = λ e s ss q l.
+            let h : n + 3 * suc (length ss) ≤ 3 * most + (p .tries + 1) = rw q at (b .count) in
+            let low = b .low in
+            moved-bound n (length ss) (p .counted + 1) (p .failed) (foundBy s (p .tries) (judged (frame s) e) (p .boards)) ss (omega arith) (omega arith);
+        again = λ s ss q l t.
+            let h : n + 3 * suc (length ss) ≤ 3 * most + (p .tries + 1) = rw q at (b .count) in
+            record { low = omega arith; count = omega arith };
+        failed = λ s ss q l.
+            let h : n + 3 * suc (length ss) ≤ 3 * most + (p .tries + 1) = rw q at (b .count) in
+            let low = b .low in
+            moved-bound n (length ss) (p .counted + 1) (p .failed ++ (s ∷ [])) (p .boards) (others (s .board) ss) (omega arith)
+            (others-length (s .board) ss);
+        fetched = λ s ss q z l. record { low = b .low; count = omega (arith, b .count) };
+      })
+      (x .0)
 
 pub bound-begun : (ss : List Step) → Bound (length ss) (length (first ss)) (begun ss)
 bound-begun [] = record { low = omega arith; count = omega arith }
@@ -116,27 +122,109 @@ most-frames Ping w = omega (arith, steps-ping w 10 0)
 
 -- ---- and one for each accepted reply or time-up, with one more while a frame is outstanding
 
-accepted-once : (frame : Step → List ℕ) (e : Event) (p : Pass) (todo : List Step) → p .todo ≡ todo
-    → length (first todo) + length (reactTo frame e p todo .0 .frames)
-    ≡ cond (isAccepted (reactTo frame e p todo .0 .answer)) 1 0 + length (first (reactTo frame e p todo .1 .todo))
-unfolding reactTo
-accepted-once frame e p [] q = rw q (omega arith)
-accepted-once frame e p (s ∷ ss) q = go (judged (frame s) e .good) (ltb (p .tries) 2)
-  where
-    go : (t u : Bool) → 1 + length (byTests frame 0 e p s ss t u .0 .frames)
-        ≡ cond (isAccepted (byTests frame 0 e p s ss t u .0 .answer)) 1 0 + length (first (byTests frame 0 e p s ss t u .1 .todo))
-    go true u = ap (λ (m : ℕ). 1 + m) (length-map (first ss) frame)
-    go false true = refl
-    go false false = ap (λ (m : ℕ). 1 + m) (length-map (first (others (s .board) ss)) frame)
+module _ (frame : Step → List ℕ) where
+  -- of a result and the pass then, after the pass p
+  abbrev CountsOne : Pass → Result × Pass → Type 0
+  CountsOne p r = length (first (p .todo)) + length (r .0 .frames) ≡ cond (isAccepted (r .0 .answer)) 1 0 + length (first (r .1 .todo))
 
-pub frames-accepted : (frame : Step → List ℕ) (p : Pass) (xs : List Item) → length (first (p .todo)) + length (framesIn (passResults frame p xs))
-    ≡ acceptedIn (passResults frame p xs) + length (first (passEnd frame p xs .todo))
-unfolding passEnd passResults framesIn acceptedIn
-frames-accepted frame p [] = omega arith
-frames-accepted frame p (x ∷ xs) =
-    omega (
-      arith,
-      frames-accepted frame (react frame (x .1) p .1) xs,
-      accepted-once frame (x .1) p (p .todo) refl,
-      length-append (react frame (x .1) p .0 .frames) (framesIn (passResults frame (react frame (x .1) p .1) xs)),
-    )
+  accepted-once : (x : Lending) (p : Pass) → CountsOne p (react frame x p)
+  accepted-once x p =
+      react-any frame (x .1) p (CountsOne p)
+      (record {
+        refused = λ m. omega arith;
+        good = λ e s ss q l. rw q (ap (λ (m : ℕ). 1 + m) (length-map (first ss) frame));
+        again = λ s ss q l t. rw q refl;
+        failed = λ s ss q l. rw q (ap (λ (m : ℕ). 1 + m) (length-map (first (others (s .board) ss)) frame));
+        fetched = λ s ss q z l. omega arith;
+      })
+      (x .0)
+
+  pub frames-accepted : (p : Pass) (xs : List Item) → length (first (p .todo)) + length (framesIn (passResults frame p xs))
+      ≡ acceptedIn (passResults frame p xs) + length (first (passEnd frame p xs .todo))
+  unfolding passEnd passResults framesIn acceptedIn
+  frames-accepted p [] = omega arith
+  frames-accepted p (x ∷ xs) =
+      omega (
+        arith,
+        frames-accepted (react frame (x .1) p .1) xs,
+        accepted-once (x .1) p,
+        length-append (react frame (x .1) p .0 .frames) (framesIn (passResults frame (react frame (x .1) p .1) xs)),
+      )
+
+-- ---- they are those that are handed out
+
+module _ (frame : Step → List ℕ) (size : (s : Step) → length (frame s) ≡ 28) where
+  -- a frame in the first 28 of the lent bytes, where the crate is not done
+  handed-first : (o : Bool → Outcome) → ((d : Bool) → saysDone (o d) ≡ d) → (lent : List ℕ) (ss : List Step)
+      → handedOutBy (given (outcome (o (none ss)))) (handedOver (map frame (first ss)) lent) ≡ map frame (first ss)
+  handed-first o says-done lent [] = rw (says-done true)
+  handed-first o says-done lent (s ∷ ss) = rw (says-done false) (ap (λ (f : List ℕ). f ∷ []) (take-at (frame s) (drop 28 lent) 28 (size s)))
+
+  -- of one result: by a reply or a time-up, and by a fetch
+  abbrev HandsOut : Result × Pass → Type 0
+  HandsOut r = handedOutBy (r .0 .answer) (r .0 .bytes) ≡ r .0 .frames
+
+  handed-once : (x : Lending) (p : Pass) → HandsOut (react frame x p)
+  handed-once x p =
+      react-any frame (x .1) p HandsOut
+      (record {
+        refused = λ m. refl;
+        good = λ e s ss q l. handed-first Good (λ d. refl) (x .1) ss;
+        again = λ s ss q l t. handed-first Again (λ d. refl) (x .1) (s ∷ ss);
+        failed = λ s ss q l. handed-first BoardFailed (λ d. refl) (x .1) (others (s .board) ss);
+        fetched = λ s ss q z l. refl;
+      })
+      (x .0)
+
+  pub frames-handed : (p : Pass) (xs : List Item) → handedOutIn (map seenOf (passResults frame p xs)) ≡ framesIn (passResults frame p xs)
+  unfolding passResults framesIn handedOutIn
+  frames-handed p [] = refl
+  frames-handed p (x ∷ xs) = ap₂ _++_ (handed-once (x .1) p) (frames-handed (react frame (x .1) p .1) xs)
+
+  -- a fetch that is not refused hands out the frame of the first step, as long as nothing is counted
+  abbrev Unmoved : List Step → Pass → Type 0
+  Unmoved todo p = p .counted ≡ 0 → p .todo ≡ todo
+
+  record FetchesFirst (todo : List Step) (r : Result × Pass) : Type 0 where
+    gives : EachIs (map frame (first todo)) (fetchedBy (r .0 .answer) (r .0 .bytes))
+    stays : Unmoved todo (r .1)
+
+  fetched-once : (todo : List Step) (x : Lending) (p : Pass) → Unmoved todo p → FetchesFirst todo (react frame x p)
+  fetched-once todo x p u =
+      react-any frame (x .1) p (FetchesFirst todo)
+      (record {
+        refused = λ m. record { gives = tt; stays = u };
+        good = λ e s ss q l. record { gives = tt; stays = λ z. absurd (let k : ⊥ = omega arith in k) };
+        again = λ s ss q l t. record { gives = tt; stays = λ z. absurd (let k : ⊥ = omega arith in k) };
+        failed = λ s ss q l. record { gives = tt; stays = λ z. absurd (let k : ⊥ = omega arith in k) };
+        fetched = λ s ss q z l. record {
+          gives = (
+            ap (λ (f : List ℕ). f ∷ []) (take-at (frame s) (drop 28 (x .1)) 28 (size s)) ∙ ap (λ (ss : List Step). map frame (first ss)) (sym q ∙ u z),
+            tt,
+          );
+          stays = u;
+        };
+      })
+      (x .0)
+
+  each-append : (one fs gs : List (List ℕ)) → EachIs one fs → EachIs one gs → EachIs one (fs ++ gs)
+  each-append one [] gs a b = b
+  each-append one (f ∷ fs) gs a b = (a .0, each-append one fs gs (a .1) b)
+
+  pub frames-fetched : (todo : List Step) (p : Pass) (xs : List Item) → Unmoved todo p
+      → EachIs (map frame (first todo)) (fetchedIn (map seenOf (passResults frame p xs)))
+  unfolding passResults fetchedIn
+  frames-fetched todo p [] u = tt
+  frames-fetched todo p (x ∷ xs) u =
+      let once = fetched-once todo (x .1) p u in
+      let r = react frame (x .1) p in
+      each-append (map frame (first todo)) (fetchedBy (r .0 .answer) (r .0 .bytes)) (fetchedIn (map seenOf (passResults frame (r .1) xs)))
+      (once .gives) (frames-fetched todo (r .1) xs (once .stays))
+
+  -- a fetch as the pass begins hands out the first frame, where there is one
+  pub fetched-begun : (c : ℕ) (lent : List ℕ) (ss : List Step) → 28 ≤ length lent
+      → fetchedIn (map seenOf (passResults frame (begun ss) ((c, (fetch, lent)) ∷ []))) ≡ map frame (first ss)
+  unfolding passResults fetchedIn fetchTo
+  fetched-begun c lent [] l = refl
+  fetched-begun c lent (s ∷ ss) l =
+      rw (le-ltb _ _ l) (ap (λ (f : List ℕ). f ∷ []) (take-at (frame s) (drop 28 lent) 28 (size s)))

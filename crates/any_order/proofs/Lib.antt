@@ -1,8 +1,10 @@
 -- Demand 3 (`demand-3` in AnyOrder), and the laws that lead to it, in this order.
 pub mod Places
 pub mod Kept
+pub mod Sent
 pub mod Follows
 pub mod Fits
+pub mod Reacting
 pub mod Frames
 pub mod Fetch
 pub mod Served

@@ -17,10 +17,10 @@ use Rattle.steps.specs.declared.Judged.{Judged}
 use Rattle.crate_pass.specs.Crate.{silent, entriesIn}
 use Rattle.crate_pass.specs.declared.Crate.{Crate}
 use Rattle.four_crates.specs.FourCrates.{crateOf, entryAt, entriesFrom, entriesOf}
-use Rattle.any_order.specs.Steps.{Step, Event, judged, Found, nothing, found, sixWords, wordsFrom, howMany, Pass, foundBy, reactTo, react}
+use Rattle.any_order.specs.Steps.{Step, judged, Lending, Found, nothing, found, sixWords, wordsFrom, howMany, Pass, Result, foundBy, react}
 use Rattle.any_order.specs.AnyOrder.{Item, passEnd, ofFour}
 use Rattle.any_order.proofs.Kept.{foundIn}
-use Rattle.any_order.proofs.Frames.{byTests}
+use Rattle.any_order.proofs.Reacting.{react-any}
 
 -- ---- the entries of the list are those of crate 0, then those of 1, 2 and 3
 
@@ -98,20 +98,22 @@ length-found s tries h boards = go (eqb (s .code) 4)
     go true = simp length-set
     go false = refl
 
-length-once : (frame : Step → List ℕ) (e : Event) (p : Pass) (todo : List Step) → length (reactTo frame e p todo .1 .boards) ≡ length (p .boards)
-unfolding reactTo
-length-once frame e p [] = refl
-length-once frame e p (s ∷ ss) = go (judged (frame s) e .good) (ltb (p .tries) 2)
-  where
-    go : (t u : Bool) → length (byTests frame 0 e p s ss t u .1 .boards) ≡ length (p .boards)
-    go true u = length-found s (p .tries) (judged (frame s) e) (p .boards)
-    go false true = refl
-    go false false = refl
+length-once : (frame : Step → List ℕ) (x : Lending) (p : Pass) → length (react frame x p .1 .boards) ≡ length (p .boards)
+length-once frame x p =
+    react-any frame (x .1) p (λ (r : Result × Pass). length (r .1 .boards) ≡ length (p .boards))
+    (record {
+      refused = λ n. refl;
+      good = λ e s ss q l. length-found s (p .tries) (judged (frame s) e) (p .boards);
+      again = λ s ss q l t. refl;
+      failed = λ s ss q l. refl;
+      fetched = λ s ss q z l. refl;
+    })
+    (x .0)
 
 pub length-end : (frame : Step → List ℕ) (p : Pass) (xs : List Item) → length (passEnd frame p xs .boards) ≡ length (p .boards)
 unfolding passEnd
 length-end frame p [] = refl
-length-end frame p (x ∷ xs) = length-end frame (react frame (x .1) p .1) xs ∙ length-once frame (x .1) p (p .todo)
+length-end frame p (x ∷ xs) = length-end frame (react frame (x .1) p .1) xs ∙ length-once frame (x .1) p
 
 -- ---- the list's words
 

@@ -1,108 +1,86 @@
 -- A crate's run is the run of its pass (`run-end`, `run-results`), and its number is that of the frames sent (`run-sent`).
 -- Assumes nothing.
-use Prim.Native.Nat.{ℕ, _+_, _<_}
-use mathlib.Core.Path.{_≡_, refl, ap, ap₂, _∙_}
-use mathlib.Core.List.{List, [], _∷_, map}
-use mathlib.Core.Bool.{Bool, true, false, cond}
+use Prim.Native.Nat.{ℕ, _+_, _<_, _≤_}
+use mathlib.Core.Path.{_≡_, refl, sym, ap, ap₂, _∙_, subst}
+use mathlib.Core.List.{List, [], _∷_}
+use mathlib.Core.Bool.{Bool, true, false}
 use native.Mathlib.Omega.{arith}
-use lib.ListN.{length, length-append}
-use lib.Dec.{ltb, leb}
-use borrow.Author.Tests.{lt-ltb}
-use Rattle.refusals.specs.Tables.{given, refused}
+use lib.ListN.{length, length-append, length-map}
+use lib.Dec.{ltb}
+use borrow.Author.Tests.{ltb-true, ltb-false}
+use Rattle.refusals.specs.Tables.{Answer, given, refused}
 use Rattle.configuration.specs.Configuration.{activeWord}
 use Rattle.steps.specs.Steps.{stepFrame}
 use Rattle.steps.specs.declared.Judged.{Judged}
-use Rattle.crate_pass.specs.Crate.{entriesIn, countedFrame, placed, advanced, stepped, withEntry, withRecord, Moved, withOutcome}
-use Rattle.crate_pass.specs.Crate.{afterGoodReply, afterFailedSend, moved}
-use Rattle.crate_pass.specs.Crate.{crateAnswer, crateAfter}
+use Rattle.steps.proofs.Lengths.{step-length}
+use Rattle.crate_pass.specs.Crate.{entriesIn, moved}
 use Rattle.crate_pass.proofs.Entries.{entries-stay}
+use Rattle.crate_pass.proofs.Serving.{answer-none, answer-short, answer-moved, after-refused, after-given}
 use Rattle.crate_pass.specs.declared.PassKind.{PassKind}
 use Rattle.crate_pass.specs.declared.PassKind.the-variants.{Reprogramming}
-use Rattle.crate_pass.specs.declared.Outcome.the-variants.{Again, BoardFailed}
+use Rattle.crate_pass.specs.declared.Outcome.{Outcome}
 use Rattle.crate_pass.specs.declared.Crate.{Crate}
+use Rattle.crate_pass.proofs.Answered.{crateAnswer, crateAfter}
 use Rattle.four_crates.specs.FourCrates.{noCrate}
 use Rattle.cells.proofs.Cells.{endAlone, outAlone}
-use Rattle.any_order.specs.Steps.{Step, step, steps, Event, judged, Pass, Result, refusal, react}
-use Rattle.any_order.specs.AnyOrder.{Item, ItemResult, framesIn, passResults, passEnd, stepOf}
-use Rattle.any_order.proofs.Follows.{Fit, view, resultFor, follows}
-use Rattle.any_order.proofs.Places.{Code, one, two, three}
+use Rattle.any_order.specs.Steps.{Step, steps, Event, judged, Request, handIn, fetch, Lending, Pass, Given, outcome, firstFrame, Result}
+use Rattle.any_order.specs.Steps.{react, reactTo}
+use Rattle.any_order.specs.AnyOrder.{Item, ItemResult, framesIn, passResults, passEnd, stepOf, sentAfter}
+use Rattle.any_order.proofs.Places.{Code, one, two, three, Place, at, past, place}
+use Rattle.any_order.proofs.Sent.{Numbered, sent-on}
+use Rattle.any_order.proofs.Follows.{Fit, view, servedResult, follows}
 use Rattle.any_order.proofs.Fits.{fit-kept}
 use Rattle.any_order.proofs.Frames.{Bound, bound-kept, bound-sent, steps-most}
-use Rattle.any_order.proofs.Fetch.{frameIn}
-use Rattle.any_order.proofs.Served.{crateStep}
+use Rattle.any_order.proofs.Fetch.{frameIn, fetchAnswer, fetch-follows}
+use Rattle.any_order.proofs.Served.{crateNext, serving, crateStep, noSuch}
 
 -- what holds of a crate all through a pass
 pub record Runs (kind : PassKind) (w : ℕ) (k : Crate) : Type 0 where
   pub fit : Fit kind k
   pub bound : Bound (length (steps kind w)) (k .sent) (view kind w k)
+  -- the outstanding frame is counted
+  pub one : length (stepOf k) ≤ k .sent
 
 -- ---- the number goes up with each frame
 
--- the number that a crate has, having moved from the number n
-abbrev Counted : ℕ → Crate → Type 0
-Counted n k = k .sent ≡ countedFrame (k .board) n
+pub numbered : (kind : PassKind) (w : ℕ) (k : Crate) → Runs kind w k → Numbered k
+numbered kind w k r =
+    record {
+      one = r .one;
+      room = omega (arith, bound-sent (length (steps kind w)) (k .sent) (view kind w k) (r .bound), steps-most kind w);
+    }
 
-module _ (kind : PassKind) (w : ℕ) where
-  sent-advanced : (k : Crate) → Counted (k .sent) (advanced kind w k)
-  unfolding advanced placed
-  sent-advanced k = refl
+module _ (frame : Step → List ℕ) (kind : PassKind) (w : ℕ) (k : Crate) (h : Judged) (lent : List ℕ) (room : k .sent < 65535) where
+  -- of an answer, and the crate after it: a reply or a time-up that is served sends a frame where one is then outstanding
+  record Sends (a : Answer Outcome) (next : Crate) : Type 0 where
+    sends : next .sent ≡ k .sent + length (servedResult frame lent a next .frames)
+    least : length (stepOf k) ≤ k .sent → length (stepOf next) ≤ next .sent
 
-  sent-stepped : (k : Crate) → Counted (k .sent) (stepped kind w k)
-  unfolding stepped placed
-  sent-stepped k = go (ltb (k .code) 3)
+  sends-none : (n p : ℕ) → crateAnswer kind w k h lent ≡ refused n p → Sends (crateAnswer kind w k h lent) (crateAfter kind w k h lent)
+  sends-none n p e =
+      subst (λ (a : Answer Outcome). Sends a (crateAfter kind w k h lent)) (sym e)
+      (subst (Sends (refused n p)) (sym (after-refused kind w k h lent n p e)) (record { sends = omega arith; least = λ l. l }))
+
+  sends-one : crateAnswer kind w k h lent ≡ given (moved kind w k h .outcome) → Sends (crateAnswer kind w k h lent) (crateAfter kind w k h lent)
+  sends-one e =
+      let next = moved kind w k h .state in
+      let on = sent-on kind w k h room in
+      subst (λ (a : Answer Outcome). Sends a (crateAfter kind w k h lent)) (sym e)
+      (subst (Sends (given (moved kind w k h .outcome))) (sym (after-given kind w k h lent (moved kind w k h .outcome) e))
+      (record { sends = on ∙ ap (λ (m : ℕ). k .sent + m) (sym (length-map (stepOf next) frame)); least = λ l. omega arith }))
+
+  sends-any : Sends (crateAnswer kind w k h lent) (crateAfter kind w k h lent)
+  sends-any = go (place (k .board)) (ltb (length lent) 28) refl
     where
-      go : (t : Bool) → Counted (k .sent) (cond {A = Crate} t (placed k (k .board) (k .code + 1) 0) (advanced kind w k))
-      go true = refl
-      go false = sent-advanced k
+      go : Place (k .board) → (t : Bool) → ltb (length lent) 28 ≡ t → Sends (crateAnswer kind w k h lent) (crateAfter kind w k h lent)
+      go (past b) t x = sends-none 12 0 (answer-none kind w k h lent b)
+      go (at b) true x = sends-none 19 0 (answer-short kind w k h lent b (ltb-true _ _ x))
+      go (at b) false x = sends-one (answer-moved kind w k h lent b (ltb-false _ _ x))
 
-  sent-failed-send : (k : Crate) → Counted (k .sent) (afterFailedSend kind w k .state)
-  unfolding afterFailedSend placed withRecord
-  sent-failed-send k = go (ltb (k .tries) 2)
-    where
-      again : Moved
-      again = withOutcome Again (placed k (k .board) (k .code) (k .tries + 1))
-
-      failed : Moved
-      failed = withOutcome BoardFailed (advanced kind w (withRecord k))
-
-      go : (t : Bool) → Counted (k .sent) (cond {A = Moved} t again failed .state)
-      go true = refl
-      go false = sent-advanced (withRecord k)
-
-  sent-good : (k : Crate) (h : Judged) → Counted (k .sent) (afterGoodReply kind w k h .state)
-  unfolding afterGoodReply withEntry
-  sent-good k h = sent-stepped (withEntry k h)
-
-  sent-moved : (k : Crate) (h : Judged) → Counted (k .sent) (moved kind w k h .state)
-  sent-moved k h = go (h .good)
-    where
-      go : (t : Bool) → Counted (k .sent) (cond {A = Moved} t (afterGoodReply kind w k h) (afterFailedSend kind w k) .state)
-      go true = sent-good k h
-      go false = sent-failed-send k
-
-counted-one : (frame : Step → List ℕ) (k : Crate) (n : ℕ) → n < 65535 → countedFrame (k .board) n ≡ n + length (map frame (stepOf k))
-unfolding countedFrame stepOf
-counted-one frame k n r = go (ltb (k .board) 10) (ltb n 65535) (lt-ltb _ _ r)
-  where
-    go : (t u : Bool) → u ≡ true → cond t (cond u (n + 1) n) n ≡ n + length (map frame (cond t (step (k .board) (k .code) ∷ []) []))
-    go true true e = refl
-    go true false e = absurd (let z : _≡_ {A = ℕ} 0 1 = cc in omega arith)
-    go false u e = omega arith
-
--- a reply or a time-up that is served sends a frame where one is then outstanding
-abbrev resultOn : (Step → List ℕ) → PassKind → ℕ → Crate → Judged → Result
-resultOn frame kind w k h = resultFor frame (crateAnswer kind w k h) (crateAfter kind w k h)
-
-sent-after : (frame : Step → List ℕ) (kind : PassKind) (w : ℕ) (k : Crate) (h : Judged) → k .sent < 65535
-    → crateAfter kind w k h .sent ≡ k .sent + length (resultOn frame kind w k h .frames)
-unfolding crateAnswer crateAfter
-sent-after frame kind w k h r = go (leb 10 (k .board))
-  where
-    go : (d : Bool) → cond {A = Crate} d k (moved kind w k h .state) .sent
-        ≡ k .sent + length
-        (resultFor frame (cond d (refused 12 0) (given (moved kind w k h .outcome))) (cond {A = Crate} d k (moved kind w k h .state)) .frames)
-    go true = omega arith
-    go false = sent-moved kind w k h ∙ counted-one frame (moved kind w k h .state) (k .sent) r
+no-frames : (a : Answer Given) → sentAfter a [] ≡ []
+no-frames (given (outcome o)) = refl
+no-frames (given firstFrame) = refl
+no-frames (refused n p) = refl
 
 -- ---- a step of the crate
 
@@ -113,57 +91,92 @@ module _ (kind : PassKind) (block : List ℕ) (c : ℕ) where
   abbrev frame : Step → List ℕ
   frame = frameIn block c
 
-  abbrev next : Crate → Event → Crate
-  next k e = crateStep kind block c k e .1
+  abbrev next : Crate → Lending → Crate
+  next k x = crateStep kind block c k x .1
 
-  abbrev result : Crate → Event → Result
-  result k e = crateStep kind block c k e .0
+  abbrev result : Crate → Lending → Result
+  result k x = crateStep kind block c k x .0
 
-  step-result : (k : Crate) (e : Event) → Fit kind k → result k e ≡ react frame e (view kind word k) .0
+  abbrev said : Crate → Event → Judged
+  said k e = judged (stepFrame block c (k .board) (k .code)) e
+
+  size : (s : Step) → length (frame s) ≡ 28
+  size s = step-length block c (s .board) (s .code)
+
+  -- what it gives and the pass that it then stands for are what the steps give
+  by-request : (k : Crate) (request : Request) (lent : List ℕ) → Runs kind word k
+      → _≡_ {A = Result × Pass} (serving kind block c k request lent .0, view kind word (serving kind block c k request lent .1))
+      (reactTo frame request lent (view kind word k))
+  unfolding crateNext
+  by-request k (handIn e) lent r = follows frame kind word lent k e (r .fit) (numbered kind word k r)
+  by-request k fetch lent r = ap (λ (x : Result). (x, view kind word k)) (fetch-follows frame size kind word lent k (numbered kind word k r))
+
+  step-result : (k : Crate) (x : Lending) → Runs kind word k → result k x ≡ react frame x (view kind word k) .0
   unfolding crateStep
-  step-result k e f = ap (λ (p : Result × Pass). p .0) (follows frame kind word k e f)
+  step-result k x r = ap (λ (p : Result × Pass). p .0) (by-request k (x .0) (x .1) r)
 
-  step-view : (k : Crate) (e : Event) → Fit kind k → view kind word (next k e) ≡ react frame e (view kind word k) .1
+  step-view : (k : Crate) (x : Lending) → Runs kind word k → view kind word (next k x) ≡ react frame x (view kind word k) .1
   unfolding crateStep
-  step-view k e f = ap (λ (p : Result × Pass). p .1) (follows frame kind word k e f)
+  step-view k x r = ap (λ (p : Result × Pass). p .1) (by-request k (x .0) (x .1) r)
 
-  step-fit : (k : Crate) (e : Event) → Fit kind k → Fit kind (next k e)
+  -- what it keeps
+  fit-by : (k : Crate) (request : Request) (lent : List ℕ) → Fit kind k → Fit kind (serving kind block c k request lent .1)
+  unfolding crateNext
+  fit-by k (handIn e) lent f = fit-kept kind word k f (said k e) lent
+  fit-by k fetch lent f = f
+
+  step-fit : (k : Crate) (x : Lending) → Fit kind k → Fit kind (next k x)
   unfolding crateStep
-  step-fit k e f = fit-kept kind word k f (judged (stepFrame block c (k .board) (k .code)) e)
+  step-fit k x f = fit-by k (x .0) (x .1) f
 
-  step-sent : (k : Crate) (e : Event) → Runs kind word k → next k e .sent ≡ k .sent + length (result k e .frames)
+  sent-by : (k : Crate) (request : Request) (lent : List ℕ) → Runs kind word k
+      → serving kind block c k request lent .1 .sent ≡ k .sent + length (serving kind block c k request lent .0 .frames)
+  unfolding crateNext
+  sent-by k (handIn e) lent r = sends-any frame kind word k (said k e) lent (numbered kind word k r .room) .sends
+  sent-by k fetch lent r = let z : length (sentAfter (fetchAnswer k lent) []) ≡ 0 = ap length (no-frames (fetchAnswer k lent)) in omega arith
+
+  step-sent : (k : Crate) (x : Lending) → Runs kind word k → next k x .sent ≡ k .sent + length (result k x .frames)
   unfolding crateStep
-  step-sent k e r =
-      sent-after frame kind word k (judged (stepFrame block c (k .board) (k .code)) e)
-      (omega (arith, bound-sent (length (steps kind word)) (k .sent) (view kind word k) (r .bound), steps-most kind word))
+  step-sent k x r = sent-by k (x .0) (x .1) r
 
-  pub step-runs : (k : Crate) (e : Event) → Runs kind word k → Runs kind word (next k e)
-  step-runs k e r =
+  one-by : (k : Crate) (request : Request) (lent : List ℕ) → Runs kind word k
+      → length (stepOf (serving kind block c k request lent .1)) ≤ serving kind block c k request lent .1 .sent
+  unfolding crateNext
+  one-by k (handIn e) lent r = sends-any frame kind word k (said k e) lent (numbered kind word k r .room) .least (r .one)
+  one-by k fetch lent r = r .one
+
+  step-one : (k : Crate) (x : Lending) → Runs kind word k → length (stepOf (next k x)) ≤ next k x .sent
+  unfolding crateStep
+  step-one k x r = one-by k (x .0) (x .1) r
+
+  pub step-runs : (k : Crate) (x : Lending) → Runs kind word k → Runs kind word (next k x)
+  step-runs k x r =
       record {
-        fit = step-fit k e (r .fit);
-        bound = rw (step-sent k e r, step-result k e (r .fit), step-view k e (r .fit))
-            (bound-kept frame (length (steps kind word)) (k .sent) e (view kind word k) (r .bound));
+        fit = step-fit k x (r .fit);
+        bound = rw (step-sent k x r, step-result k x r, step-view k x r)
+            (bound-kept frame (length (steps kind word)) (k .sent) x (view kind word k) (r .bound));
+        one = step-one k x r;
       }
 
   -- ---- all of a crate's items
 
   abbrev ending : Crate → List Item → Crate
-  ending k xs = endAlone noCrate (crateStep kind block) (refusal 11) c k xs
+  ending k xs = endAlone noCrate (crateStep kind block) noSuch c k xs
 
   abbrev givings : Crate → List Item → List ItemResult
-  givings k xs = outAlone noCrate (crateStep kind block) (refusal 11) c k xs
+  givings k xs = outAlone noCrate (crateStep kind block) noSuch c k xs
 
   pub run-end : (k : Crate) (xs : List Item) → Runs kind word k → view kind word (ending k xs) ≡ passEnd frame (view kind word k) xs
   unfolding endAlone passEnd
   run-end k [] r = refl
-  run-end k (x ∷ xs) r = run-end (next k (x .1)) xs (step-runs k (x .1) r) ∙ ap (λ p. passEnd frame p xs) (step-view k (x .1) (r .fit))
+  run-end k (x ∷ xs) r = run-end (next k (x .1)) xs (step-runs k (x .1) r) ∙ ap (λ p. passEnd frame p xs) (step-view k (x .1) r)
 
   pub run-results : (k : Crate) (xs : List Item) → Runs kind word k → givings k xs ≡ passResults frame (view kind word k) xs
   unfolding outAlone passResults
   run-results k [] r = refl
   run-results k (x ∷ xs) r =
-      ap₂ (λ (o : Result) (l : List ItemResult). (x, o) ∷ l) (step-result k (x .1) (r .fit))
-      (run-results (next k (x .1)) xs (step-runs k (x .1) r) ∙ ap (λ p. passResults frame p xs) (step-view k (x .1) (r .fit)))
+      ap₂ (λ (o : Result) (l : List ItemResult). (x, o) ∷ l) (step-result k (x .1) r)
+      (run-results (next k (x .1)) xs (step-runs k (x .1) r) ∙ ap (λ p. passResults frame p xs) (step-view k (x .1) r))
 
   pub run-runs : (k : Crate) (xs : List Item) → Runs kind word k → Runs kind word (ending k xs)
   unfolding endAlone
@@ -188,12 +201,14 @@ no-ping two q = omega arith
 no-ping three q = omega arith
 
 module _ (block : List ℕ) (c : ℕ) where
-  step-list : (k : Crate) (e : Event) → Fit Reprogramming k → entriesIn (crateStep Reprogramming block c k e .1) ≡ entriesIn k
-  unfolding crateStep
-  step-list k e f = entries-stay Reprogramming (activeWord block c) k (judged (stepFrame block c (k .board) (k .code)) e) (no-ping (f .code))
+  list-by : (k : Crate) (request : Request) (lent : List ℕ) → Fit Reprogramming k
+      → entriesIn (serving Reprogramming block c k request lent .1) ≡ entriesIn k
+  unfolding crateNext
+  list-by k (handIn e) lent f = entries-stay Reprogramming (activeWord block c) k (said Reprogramming block c k e) lent (no-ping (f .code))
+  list-by k fetch lent f = refl
 
-  pub run-list : (k : Crate) (xs : List Item) → Fit Reprogramming k
-      → entriesIn (endAlone noCrate (crateStep Reprogramming block) (refusal 11) c k xs) ≡ entriesIn k
-  unfolding endAlone
+  pub run-list : (k : Crate) (xs : List Item) → Fit Reprogramming k → entriesIn (endAlone noCrate (crateStep Reprogramming block) noSuch c k xs) ≡ entriesIn k
+  unfolding endAlone crateStep
   run-list k [] f = refl
-  run-list k (x ∷ xs) f = run-list (crateStep Reprogramming block c k (x .1) .1) xs (step-fit Reprogramming block c k (x .1) f) ∙ step-list k (x .1) f
+  run-list k (x ∷ xs) f =
+      run-list (crateStep Reprogramming block c k (x .1) .1) xs (step-fit Reprogramming block c k (x .1) f) ∙ list-by k (x .1 .0) (x .1 .1) f

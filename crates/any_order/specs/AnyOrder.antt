@@ -1,12 +1,13 @@
--- 01, "Demand 3 is a single claim about the whole sequence, of any length and the empty one too": its definitions in the order of the paragraph,
--- and the claim (`AnyOrder`).
+-- 01, "Demand 3 is a single claim about the whole sequence, of any length and the empty one too", and 02, d, "Demand 3 covers the bytes too": its
+-- definitions in the order of the paragraph, and the claim (`AnyOrder`).
 use Prim.Native.Nat.{ℕ, suc, _+_, _*_, _<_, _≤_}
 use mathlib.Core.Path.{_≡_}
-use mathlib.Core.Bool.{Bool, true, false, cond, not, _&&_}
+use mathlib.Core.Bool.{Bool, true, false, cond, not, _&&_, _||_}
 use mathlib.Core.List.{List, [], _∷_, _++_, map}
 use lib.Dec.{ltb, leb}
 use lib.ListN.{length, getD, take, drop, replicate}
-use Rattle.refusals.specs.Tables.{Answer, given, refused, Rule, rule, lowest}
+use Rattle.refusals.specs.Tables.{Answer, given, refused, Rule, rule}
+use Rattle.refusals.specs.Writing.{outputAfter, writing}
 use Rattle.refusals.specs.declared.Written.{Written}
 use Rattle.commands.specs.declared.Command.the-variants.{Write, Ping}
 use Rattle.blocks.specs.Blocks.{failureBody, WroteBlock}
@@ -15,6 +16,7 @@ use Rattle.steps.specs.Steps.{stepFrame}
 use Rattle.steps.specs.declared.Judged.{Judged}
 use Rattle.run.specs.Run.{refreshed}
 use Rattle.run.specs.declared.Run.{Run}
+use Rattle.crate_pass.specs.Crate.{isDone, saysDone}
 use Rattle.crate_pass.specs.declared.PassKind.{PassKind}
 use Rattle.crate_pass.specs.declared.PassKind.the-variants.{Reprogramming}
 use Rattle.crate_pass.specs.declared.Outcome.{Outcome}
@@ -22,18 +24,19 @@ use Rattle.crate_pass.specs.declared.Crate.{Crate}
 use Rattle.four_crates.specs.FourCrates as four
 use Rattle.board.specs.State.{crateAt, isIdle}
 use Rattle.board.specs.Commands.{boardAnswer, boardAfter}
-use Rattle.board.specs.SlowControl.{frameAt, fetchRules, replyAnswer, boardReplied, sentAnswer}
+use Rattle.board.specs.SlowControl.{frameAt, replyAnswer, boardReplied, bytesReplied, fetchRules, sentAnswer}
 use Rattle.board.specs.SentOut.{headerOf, listOf, failedFrame, SendsList, SendsFailure}
 use Rattle.board.specs.declared.Board.{Board}
 use Rattle.cells.specs.Order.{only, from, ordered}
-use Rattle.any_order.specs.Steps.{Step, step, steps, servedFrom, Event, judged, wordsFrom, howMany}
-use Rattle.any_order.specs.Steps.{Pass, begun, Result, refusal, first, none, react}
+use Rattle.any_order.specs.Steps.{Step, step, steps, servedFrom, Event, judged, Request, handIn, fetch, Lending, wordsFrom, howMany}
+use Rattle.any_order.specs.Steps.{Pass, begun, Given, outcome, firstFrame, Result, refusal, first, none, react}
 
 -- ---- items
 
--- "An item is a crate number with a reply's bytes, of any length, or with a time-up"
+-- "An item is a crate number with a reply's bytes, of any length, or with a time-up"; and by 02, d also one with a fetch of the first frame. Each
+-- has its own lent bytes
 abbrev pub Item : Type 0
-Item = ℕ × Event
+Item = ℕ × Lending
 
 abbrev pub itemCrate : Item → ℕ
 itemCrate x = x .0
@@ -97,31 +100,51 @@ listBegun β (ping w) = replicate 5 0 ++ (activeOf β (ping w) ++ replicate 240 
 
 -- ---- the items on the board
 
--- what an item says on the board: `reply` and `time_up` promise the answer and the next state that it then gets
-abbrev pub judgedOn : Board → Item → Judged
-judgedOn β x = judged (frameAt β (x .0)) (x .1)
+-- what a reply or a time-up says on crate c of the board
+abbrev pub judgedOn : Board → ℕ → Event → Judged
+judgedOn β c e = judged (frameAt β c) e
 
-abbrev pub answerTo : Board → Item → Answer Outcome
-answerTo β x = replyAnswer β (x .0) (judgedOn β x)
+-- an answer of `hand_in`, and one of `first_frame`
+abbrev pub outcomeGiven : Answer Outcome → Answer Given
+outcomeGiven (given o) = given (outcome o)
+outcomeGiven (refused n p) = refused n p
+
+abbrev pub firstGiven : Answer ℕ → Answer Given
+firstGiven (given n) = given firstFrame
+firstGiven (refused n p) = refused n p
+
+-- what they promise for an item: the answer, what the lent bytes then hold, and the next state
+abbrev pub answerFor : Board → ℕ → Request → List ℕ → Answer Given
+answerFor β c (handIn e) lent = outcomeGiven (replyAnswer β c (judgedOn β c e) lent)
+answerFor β c fetch lent = firstGiven (writing (fetchRules β c) (frameAt β c) lent)
+
+abbrev pub bytesFor : Board → ℕ → Request → List ℕ → List ℕ
+bytesFor β c (handIn e) lent = bytesReplied β c (judgedOn β c e) lent
+bytesFor β c fetch lent = outputAfter (writing (fetchRules β c) (frameAt β c) lent) (frameAt β c) lent
+
+abbrev pub boardAfterRequest : Board → ℕ → Request → List ℕ → Board
+boardAfterRequest β c (handIn e) lent = boardReplied β c (judgedOn β c e) lent
+boardAfterRequest β c fetch lent = β
 
 abbrev pub afterItem : Board → Item → Board
-afterItem β x = boardReplied β (x .0) (judgedOn β x)
+afterItem β x = boardAfterRequest β (x .0) (x .1 .0) (x .1 .1)
 
--- the frame outstanding on crate c, where there is one: what `outstanding_frame` promises to give
-abbrev pub framesGiven : Answer (List ℕ) → List (List ℕ)
-framesGiven (given f) = f ∷ []
-framesGiven (refused n p) = []
+-- the frame outstanding on crate c, where there is one
+unfoldable pub outstanding : Board → ℕ → List (List ℕ)
+outstanding β c = cond (ltb 3 c || isDone (crateAt β c)) [] (frameAt β c ∷ [])
 
-unfoldable pub fetched : Board → ℕ → List (List ℕ)
-fetched β c = framesGiven (lowest (fetchRules β c) (frameAt β c))
-
--- "after each accepted reply or time-up for it the one then outstanding, where there is one"
-abbrev pub sentAfter : Answer Outcome → List (List ℕ) → List (List ℕ)
-sentAfter (given o) frames = frames
+-- "after each accepted reply or time-up for it the one then outstanding, where there is one"; a fetch sends none, since the first is sent
+abbrev pub sentAfter : Answer Given → List (List ℕ) → List (List ℕ)
+sentAfter (given (outcome o)) frames = frames
+sentAfter (given firstFrame) frames = []
 sentAfter (refused n p) frames = []
 
+abbrev pub resultFor : Answer Given → List ℕ → List (List ℕ) → Result
+resultFor a bytes frames = record { answer = a; bytes = bytes; frames = sentAfter a frames }
+
 unfoldable pub resultOf : Board → Item → Result
-resultOf β x = record { answer = answerTo β x; frames = sentAfter (answerTo β x) (fetched (afterItem β x) (x .0)) }
+resultOf β x =
+    resultFor (answerFor β (x .0) (x .1 .0) (x .1 .1)) (bytesFor β (x .0) (x .1 .0) (x .1 .1)) (outstanding (afterItem β x) (x .0))
 
 -- "The first gets the state that the accepted write or ping returned, each later one the state that the one before returned, refused or not"
 unfoldable pub results : Board → List Item → List ItemResult
@@ -145,10 +168,10 @@ boardAtEnd β g xs = final (startOf β g) xs
 abbrev pub inOrder : List Item → List Item
 inOrder xs = ordered itemCrate 4 xs
 
--- the items for no crate: each is refused with 11
+-- the items for no crate: each is refused with 11, and its bytes are left
 unfoldable pub refusedAll : List Item → List ItemResult
 refusedAll [] = []
-refusedAll (x ∷ xs) = (x, refusal 11) ∷ refusedAll xs
+refusedAll (x ∷ xs) = (x, refusal 11 (x .1 .1)) ∷ refusedAll xs
 
 -- ---- the frames sent on a crate, and their number
 
@@ -158,15 +181,59 @@ framesIn (t ∷ ts) = t .1 .frames ++ framesIn ts
 
 -- "the one outstanding when the pass begins, and after each accepted reply or time-up for it the one then outstanding"
 abbrev pub framesOn : Board → Begin → ℕ → List Item → List (List ℕ)
-framesOn β g c xs = fetched (startOf β g) c ++ framesIn (only resultCrate c (resultsAfter β g xs))
+framesOn β g c xs = outstanding (startOf β g) c ++ framesIn (only resultCrate c (resultsAfter β g xs))
 
-abbrev pub isAccepted : Answer Outcome → Bool
-isAccepted (given o) = true
+abbrev pub isAccepted : Answer Given → Bool
+isAccepted (given (outcome o)) = true
+isAccepted (given firstFrame) = false
 isAccepted (refused n p) = false
 
 unfoldable pub acceptedIn : List ItemResult → ℕ
 acceptedIn [] = 0
 acceptedIn (t ∷ ts) = cond (isAccepted (t .1 .answer)) 1 0 + acceptedIn ts
+
+-- what a caller sees of an item: its answer, and what its bytes then hold
+abbrev pub Seen : Type 0
+Seen = Item × (Answer Given × List ℕ)
+
+abbrev pub seenCrate : Seen → ℕ
+seenCrate t = t .0 .0
+
+abbrev pub seenOf : ItemResult → Seen
+seenOf t = (t .0, (t .1 .answer, t .1 .bytes))
+
+-- the frame that the caller is so handed: by a reply or a time-up, and by a fetch
+abbrev pub handedOutBy : Answer Given → List ℕ → List (List ℕ)
+handedOutBy (given (outcome o)) bytes = cond (saysDone o) [] (take 28 bytes ∷ [])
+handedOutBy (given firstFrame) bytes = []
+handedOutBy (refused n p) bytes = []
+
+abbrev pub fetchedBy : Answer Given → List ℕ → List (List ℕ)
+fetchedBy (given (outcome o)) bytes = []
+fetchedBy (given firstFrame) bytes = take 28 bytes ∷ []
+fetchedBy (refused n p) bytes = []
+
+-- those of a series
+unfoldable pub handedOutIn : List Seen → List (List ℕ)
+handedOutIn [] = []
+handedOutIn (t ∷ ts) = handedOutBy (t .1 .0) (t .1 .1) ++ handedOutIn ts
+
+unfoldable pub fetchedIn : List Seen → List (List ℕ)
+fetchedIn [] = []
+fetchedIn (t ∷ ts) = fetchedBy (t .1 .0) (t .1 .1) ++ fetchedIn ts
+
+-- what crate c's items are seen to get
+abbrev pub seenOn : Board → Begin → ℕ → List Item → List Seen
+seenOn β g c xs = map seenOf (only resultCrate c (resultsAfter β g xs))
+
+-- a fetch for crate c as the pass begins, with these bytes lent
+abbrev pub firstFetched : Board → Begin → ℕ → List ℕ → List (List ℕ)
+firstFetched β g c lent = fetchedIn (seenOn β g c ((c, (fetch, lent)) ∷ []))
+
+-- each of the frames is the one of `one`
+abbrev pub EachIs : List (List ℕ) → List (List ℕ) → Type 0
+EachIs one [] = Unit
+EachIs one (f ∷ fs) = (f ∷ [] ≡ one) × EachIs one fs
 
 -- at most nine frames for each active board; in a ping three for each of ten
 abbrev pub mostFrames : PassKind → ℕ → ℕ
@@ -265,15 +332,19 @@ stepOf k = cond (ltb (k .board) 10) (step (k .board) (k .code) ∷ []) []
 pub record Alone (β : Board) (g : Begin) (c : ℕ) (xs : List Item) : Type 0 where
   pub answers : only resultCrate c (resultsAfter β g xs) ≡ resultsOn β g c xs
   pub frames : framesOn β g c xs ≡ map (frameOn β g c) (first (passOn β g c .todo)) ++ framesIn (resultsOn β g c xs)
-  -- the place: the outstanding step, how many sends of it failed, and its frame as `outstanding_frame` gives it
+  -- which are exactly those that the first frame's fetch, as the pass begins, and the replies and time-ups hand out; each later fetch that is not
+  -- refused hands out the first one
+  pub handed : (lent : List ℕ) → 28 ≤ length lent → framesOn β g c xs ≡ firstFetched β g c lent ++ handedOutIn (seenOn β g c xs)
+  pub fetched : EachIs (outstanding (startOf β g) c) (fetchedIn (seenOn β g c xs))
+  -- the place: the outstanding step, how many sends of it failed, and its frame
   pub place : stepOf (crateAt (boardAtEnd β g xs) c) ≡ first (endOn β g c xs .todo)
   pub tries : crateAt (boardAtEnd β g xs) c .tries ≡ endOn β g c xs .tries
-  pub outstanding : fetched (boardAtEnd β g xs) c ≡ map (frameOn β g c) (first (endOn β g c xs .todo))
+  pub frame : outstanding (boardAtEnd β g xs) c ≡ map (frameOn β g c) (first (endOn β g c xs .todo))
   -- "The number of frames sent on a crate", as `frames_sent` reports it: it is that of the frames above, "the accepted replies and time-ups of
   -- this pass, and one more while a frame is outstanding", and bounded
   pub number : sentAnswer (boardAtEnd β g xs) c ≡ given (length (framesOn β g c xs))
   pub counted : length (framesOn β g c xs)
-      ≡ acceptedIn (only resultCrate c (resultsAfter β g xs)) + length (fetched (boardAtEnd β g xs) c)
+      ≡ acceptedIn (only resultCrate c (resultsAfter β g xs)) + length (outstanding (boardAtEnd β g xs) c)
   pub bounded : length (framesOn β g c xs) ≤ mostFrames (kindOf g) (wordOf (storedBlock β g) c)
   -- "Records stand in rising k": so do the steps that failed
   pub rising : Rising 0 (endOn β g c xs .failed)
@@ -284,7 +355,7 @@ pub record AnyOrder (β : Board) (g : Begin) (xs : List Item) : Type 0 where
   -- words say
   pub start : startOf β g ≡ begunBoard β g (startOf β g .crates)
   pub begun-list : listBody (listOf (startOf β g)) ≡ listBegun β g
-  -- the same item gets the same answer, and the same frames are sent after it
+  -- the same item gets the same answer, its bytes hold the same after it, and the same frames are sent
   pub answers : resultsAfter β g (inOrder xs) ≡ ordered resultCrate 4 (resultsAfter β g xs)
   -- each crate is sent the same frames in the same order
   pub frames : (c : ℕ) → c < 4 → framesOn β g c (inOrder xs) ≡ framesOn β g c xs

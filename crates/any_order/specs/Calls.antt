@@ -1,27 +1,24 @@
 -- Demand 3 over the contracts of the public calls alone: what any results that keep them have to do with the claim (`AnyOrderOfCalls`).
 use Prim.Native.Nat.{ℕ, _<_, _≤_}
 use mathlib.Core.Path.{_≡_}
-use mathlib.Core.Bool.{cond, _&&_}
 use mathlib.Core.List.{List, [], _∷_, _++_, map}
-use lib.Dec.{eqb}
-use lib.ListN.{length, take}
+use lib.ListN.{length}
 use Rattle.refusals.specs.Tables.{Answer, given}
-use Rattle.refusals.specs.Writing.{Wrote}
+use Rattle.refusals.specs.Writing.{writtenMeaning}
 use Rattle.refusals.specs.declared.Written.{Written}
-use Rattle.refusals.specs.declared.Written.the-variants.{Length, Refused}
 use Rattle.commands.specs.declared.Command.the-variants.{Write, Ping}
 use Rattle.acceptance.specs.Acceptance.{answerMeaning}
-use Rattle.steps.specs.Steps.{noReply}
+use Rattle.steps.specs.declared.Event.the-variants.{Reply, TimeUp}
 use Rattle.crate_pass.specs.Crate.{replyMeaning}
-use Rattle.crate_pass.specs.declared.Outcome.{Outcome}
 use Rattle.board.specs.Commands.{Obeys}
-use Rattle.board.specs.SlowControl.{frameAt, fetchRules, Replies, judgedAt}
+use Rattle.board.specs.SlowControl.{judgedAt, Replies, Fetches}
 use Rattle.board.specs.declared.Board.{Board}
 use Rattle.board.specs.declared.CommandResult.{CommandResult}
 use Rattle.board.specs.declared.ReplyResult.{ReplyResult}
-use Rattle.cells.specs.Order.{ordered}
-use Rattle.any_order.specs.Steps.{Event, reply, timeUp}
-use Rattle.any_order.specs.AnyOrder.{Item, ItemResult, Begin, write, ping, resultsAfter, boardAtEnd, isAccepted, framesOn, AnyOrder}
+use Rattle.cells.specs.Order.{only, ordered}
+use Rattle.any_order.specs.Steps.{Event, reply, timeUp, Request, handIn, fetch, Given}
+use Rattle.any_order.specs.AnyOrder.{Item, Begin, write, ping, outcomeGiven, firstGiven, resultsAfter, boardAtEnd, framesOn}
+use Rattle.any_order.specs.AnyOrder.{Seen, seenCrate, seenOf, fetchedBy, handedOutIn, AnyOrder}
 
 -- ---- the begin
 
@@ -32,90 +29,74 @@ BegunBy β (ping w) r = Obeys β w r × (answerMeaning (r .answer) ≡ given Pin
 
 -- ---- the items
 
--- one item, as a caller serves it, with what `reply` or `time_up` returned
+-- what `hand_in` returned, or `first_frame`
+pub data Returned : Type 0 where
+  replied : ReplyResult → Returned
+  fetched : Written → Returned
+
+-- one item, as a caller serves it, with what was returned and what the lent bytes then held
 pub record ServedItem : Type 0 where
   pub item : Item
-  pub replied : ReplyResult
+  pub returned : Returned
+  pub bytes : List ℕ
 
--- the contracts of `reply` and of `time_up`
-abbrev pub RepliesTo : Board → ℕ → Event → ReplyResult → Type 0
-RepliesTo β c (reply bytes) r = Replies β c (judgedAt β c bytes) r
-RepliesTo β c timeUp r = Replies β c noReply r
+-- the contract of `hand_in`, for a reply and for a time-up, which is judged alike whatever bytes come with it
+abbrev pub HandedIn : Board → ℕ → Event → List ℕ → ReplyResult → List ℕ → Type 0
+HandedIn β c (reply bytes) lent r after = Replies β c (judgedAt β c Reply bytes) lent r after
+HandedIn β c timeUp lent r after = Replies β c (judgedAt β c TimeUp []) lent r after
 
--- a series: each call keeps its contract, on the board that the one before returned
+-- that of the call that the request asks for
+abbrev pub Keeps : Board → ℕ → Request → List ℕ → Returned → List ℕ → Type 0
+Keeps β c (handIn e) lent (replied r) after = HandedIn β c e lent r after
+Keeps β c (handIn e) lent (fetched r) after = ⊥
+Keeps β c fetch lent (replied r) after = ⊥
+Keeps β c fetch lent (fetched r) after = Fetches β c lent r after
+
+-- the board that the caller then has: `first_frame` returns none
+abbrev pub boardThen : Board → Returned → Board
+boardThen β (replied r) = r .board
+boardThen β (fetched r) = β
+
+-- a series: each call keeps its contract, on the board that the one before left
 abbrev pub Chained : Board → List ServedItem → Type 0
 Chained β [] = Unit
-Chained β (s ∷ ss) = RepliesTo β (s .item .0) (s .item .1) (s .replied) × Chained (s .replied .board) ss
+Chained β (s ∷ ss) = Keeps β (s .item .0) (s .item .1 .0) (s .item .1 .1) (s .returned) (s .bytes) × Chained (boardThen β (s .returned)) ss
 
 abbrev pub lastBoard : Board → List ServedItem → Board
 lastBoard β [] = β
-lastBoard β (s ∷ ss) = lastBoard (s .replied .board) ss
+lastBoard β (s ∷ ss) = lastBoard (boardThen β (s .returned)) ss
 
 abbrev pub itemsOf : List ServedItem → List Item
 itemsOf ss = map (λ (s : ServedItem). s .item) ss
 
--- an item with its answer, as 01 has it
-abbrev pub Answered : Type 0
-Answered = Item × Answer Outcome
+-- an item with its answer, as 01 has it, and its bytes
+abbrev pub answerSeen : Returned → Answer Given
+answerSeen (replied r) = outcomeGiven (replyMeaning (r .answer))
+answerSeen (fetched r) = firstGiven (writtenMeaning r)
 
-abbrev pub answeredCrate : Answered → ℕ
-answeredCrate t = t .0 .0
-
-abbrev pub seen : ServedItem → Answered
-seen s = (s .item, replyMeaning (s .replied .answer))
-
-abbrev pub answered : ItemResult → Answered
-answered t = (t .0, t .1 .answer)
+abbrev pub seen : ServedItem → Seen
+seen s = (s .item, (answerSeen (s .returned), s .bytes))
 
 -- ---- the frames
 
--- what `outstanding_frame` answered, with the bytes lent to it before and after
-pub record Fetch : Type 0 where
-  pub answer : Written
-  pub lent : List ℕ
-  pub after : List ℕ
-
--- it keeps its contract on crate c of the board, and enough bytes are lent for a frame
-pub record Fetches (β : Board) (c : ℕ) (f : Fetch) : Type 0 where
-  pub room : 28 ≤ length (f .lent)
-  pub keeps : Wrote (fetchRules β c) (frameAt β c) (f .lent) (f .answer) (f .after)
-
--- one fetch on each of the boards
-abbrev pub FetchesOn : ℕ → List Board → List Fetch → Type 0
-FetchesOn c [] [] = Unit
-FetchesOn c [] (f ∷ fs) = ⊥
-FetchesOn c (γ ∷ γs) [] = ⊥
-FetchesOn c (γ ∷ γs) (f ∷ fs) = Fetches γ c f × FetchesOn c γs fs
-
--- when a caller fetches for crate c: on the board that the command returned, and after each accepted item for c on the one that the item returned
-unfoldable pub boardsAfter : ℕ → List ServedItem → List Board
-boardsAfter c [] = []
-boardsAfter c (s ∷ ss) =
-    cond (eqb (s .item .0) c && isAccepted (replyMeaning (s .replied .answer))) (s .replied .board ∷ boardsAfter c ss) (boardsAfter c ss)
-
--- the frame that the caller then has, where there is one
-abbrev pub framesSeen : Written → List ℕ → List (List ℕ)
-framesSeen (Length n) after = take n after ∷ []
-framesSeen (Refused r) after = []
-
-unfoldable pub allSeen : List Fetch → List (List ℕ)
-allSeen [] = []
-allSeen (f ∷ fs) = framesSeen (f .answer) (f .after) ++ allSeen fs
-
--- the frames so fetched on crate c are the given ones
+-- the frames that the caller has for crate c are the given ones: that of a fetch on the board that the command returned, with enough bytes lent, and
+-- those that its items for c hand out
 abbrev pub Sent : ℕ → Board → List ServedItem → List (List ℕ) → Type 0
-Sent c returned ss frames = (fs : List Fetch) → FetchesOn c (returned ∷ boardsAfter c ss) fs → allSeen fs ≡ frames
+Sent c start ss frames =
+    (lent : List ℕ) (r : Written) (after : List ℕ) → 28 ≤ length lent → Fetches start c lent r after
+    → fetchedBy (firstGiven (writtenMeaning r)) after ++ handedOutIn (only seenCrate c (map seen ss)) ≡ frames
 
 -- ---- the claim, of any board, an accepted write or ping on it, and two series of the same items, the second in the order of the crates
 
-pub record AnyOrderOfCalls (β : Board) (g : Begin) (returned : Board) (one two : List ServedItem) : Type 0 where
+pub record AnyOrderOfCalls (β : Board) (g : Begin) (start : Board) (one two : List ServedItem) : Type 0 where
   -- the claim holds of the items
   pub claim : AnyOrder β g (itemsOf one)
   -- and what it speaks of is what the caller sees, and has at the end
-  pub seen-one : map seen one ≡ map answered (resultsAfter β g (itemsOf one))
-  pub sent-one : (c : ℕ) → c < 4 → Sent c returned one (framesOn β g c (itemsOf one))
-  pub last-one : lastBoard returned one ≡ boardAtEnd β g (itemsOf one)
-  -- so in the second order each item gets the same answer, each crate is sent the same frames, and the board at the end is the same
-  pub seen-two : map seen two ≡ ordered answeredCrate 4 (map seen one)
-  pub sent-two : (c : ℕ) → c < 4 → Sent c returned two (framesOn β g c (itemsOf one))
-  pub last-two : lastBoard returned two ≡ lastBoard returned one
+  pub seen-one : map seen one ≡ map seenOf (resultsAfter β g (itemsOf one))
+  pub sent-one : (c : ℕ) → c < 4 → Sent c start one (framesOn β g c (itemsOf one))
+  pub last-one : lastBoard start one ≡ boardAtEnd β g (itemsOf one)
+  -- so in the second order each item gets the same answer and its bytes hold the same, each crate is sent the same frames, and the board at the end
+  -- is the same
+  pub seen-two : map seen two ≡ ordered seenCrate 4 (map seen one)
+  pub sent-two : (c : ℕ) → c < 4 → Sent c start two (framesOn β g c (itemsOf one))
+  pub last-two : lastBoard start two ≡ lastBoard start one

@@ -1,11 +1,12 @@
--- 01, Slow control: the steps of a pass on one crate, as the paper words them. Nothing here speaks of how the board keeps its place; which boards a
--- pass serves, how often a step is sent and what the list says of a board are said here by themselves, and not taken from what the code's contracts
--- cite. What a reply says to a frame, good or not and with which DNA and CRC error byte, is `judgedReply`, which the contracts cite too.
+-- 01, Slow control, as 02, d changes it: the steps of a pass on one crate, as the papers word them. Nothing here speaks of how the board keeps its
+-- place; which boards a pass serves, how often a step is sent and what the list says of a board are said here by themselves, and not taken from what
+-- the code's contracts cite. What a reply says to a frame, good or not and with which DNA and CRC error byte, is `judgedReply`, which the contracts
+-- cite too.
 use Prim.Native.Nat.{ℕ, zero, suc, _+_, _*_, _/_, _%_, _^_}
 use mathlib.Core.Bool.{Bool, true, false, cond}
 use mathlib.Core.List.{List, [], _∷_, _++_, map}
 use lib.Dec.{ltb, eqb}
-use lib.ListN.{set, replicate}
+use lib.ListN.{length, set, drop, replicate}
 use Rattle.refusals.specs.Tables.{Answer, given, refused}
 use Rattle.numbers.specs.Numbers.{digits}
 use Rattle.steps.specs.Steps.{judgedReply, noReply}
@@ -61,6 +62,15 @@ abbrev pub judged : List ℕ → Event → Judged
 judged frame (reply bytes) = judgedReply frame bytes
 judged frame timeUp = noReply
 
+-- 02, d: "hand in a reply or a time-up", and "the first frame of a pass has its own fetch"
+pub data Request : Type 0 where
+  handIn : Event → Request
+  fetch : Request
+
+-- "each item brings its own lent bytes, their number and what they held included"
+abbrev pub Lending : Type 0
+Lending = Request × List ℕ
+
 -- ---- what a ping finds of a board
 
 -- nothing, or how many calls it needed, its DNA, and its CRC error byte
@@ -97,21 +107,30 @@ pub record Pass : Type 0 where
   pub failed : List Step
   -- what was found of each of the ten boards
   pub boards : List Found
+  -- "the accepted replies and time-ups of this pass"
+  pub counted : ℕ
 
-abbrev pub pass : List Step → ℕ → List Step → List Found → Pass
-pass todo tries failed boards = record { todo = todo; tries = tries; failed = failed; boards = boards }
+abbrev pub pass : List Step → ℕ → List Step → List Found → ℕ → Pass
+pass todo tries failed boards counted = record { todo = todo; tries = tries; failed = failed; boards = boards; counted = counted }
 
 -- the steps ss as they begin: no failed send, no failure record, and "A ping clears the list as it begins"
 abbrev pub begun : List Step → Pass
-begun ss = pass ss 0 [] (replicate 10 nothing)
+begun ss = pass ss 0 [] (replicate 10 nothing) 0
 
--- what an item gets: an answer, and the frame that is sent then, one or none, as bytes
+-- what a request that is not refused gets: an outcome, or the first frame
+pub data Given : Type 0 where
+  outcome : Outcome → Given
+  firstFrame : Given
+
+-- what an item gets: an answer, what its lent bytes then hold, and the frame that is sent then, one or none, as bytes
 pub record Result : Type 0 where
-  pub answer : Answer Outcome
+  pub answer : Answer Given
+  pub bytes : List ℕ
   pub frames : List (List ℕ)
 
-abbrev pub refusal : ℕ → Result
-refusal n = record { answer = refused n 0; frames = [] }
+-- "No refusal changes the state or lent memory"
+abbrev pub refusal : ℕ → List ℕ → Result
+refusal n lent = record { answer = refused n 0; bytes = lent; frames = [] }
 
 -- the outstanding step, where there is one
 abbrev pub first : List Step → List Step
@@ -131,21 +150,51 @@ others b (s ∷ ss) = cond (eqb (s .board) b) (others b ss) (s ∷ others b ss)
 unfoldable pub foundBy : Step → ℕ → Judged → List Found → List Found
 foundBy s tries h boards = cond (eqb (s .code) 4) (set boards (s .board) (found (tries + 1) (h .dna) (h .«crc_errors»))) boards
 
+-- "the next frame, or word that the crate is done and the bytes untouched": a frame in the first 28 lent bytes, or none
+abbrev pub handedOver : List (List ℕ) → List ℕ → List ℕ
+handedOver [] lent = lent
+handedOver (f ∷ fs) lent = f ++ drop 28 lent
+
+-- "19 whenever fewer than 28 bytes are lent"
+abbrev pub tooFew : List ℕ → Bool
+tooFew lent = ltb (length lent) 28
+
 -- What follows is over `frame`, the bytes of a step's frame.
 -- An outcome "with whether the crate is done", and the frame then outstanding
-abbrev pub says : (Step → List ℕ) → (Bool → Outcome) → Pass → Result × Pass
-says frame outcome p = (record { answer = given (outcome (none (p .todo))); frames = map frame (first (p .todo)) }, p)
+abbrev pub says : (Step → List ℕ) → (Bool → Outcome) → List ℕ → Pass → Result × Pass
+says frame o lent p = (
+  record {
+    answer = given (outcome (o (none (p .todo))));
+    bytes = handedOver (map frame (first (p .todo))) lent;
+    frames = map frame (first (p .todo));
+  },
+  p,
+)
 
 -- "A good reply moves to the next step. A bad reply, or a time-up, sends again; after the third send of a step fails, the board gets a
--- failure record and its other steps are dropped." 12: nothing outstanding there
-unfoldable pub reactTo : (Step → List ℕ) → Event → Pass → List Step → Result × Pass
-reactTo frame e p [] = (refusal 12, p)
-reactTo frame e p (s ∷ ss) =
-    cond (judged (frame s) e .good)
-    (says frame Good (pass ss 0 (p .failed) (foundBy s (p .tries) (judged (frame s) e) (p .boards))))
+-- failure record and its other steps are dropped." 12: nothing outstanding there; then 19, and it "is then not counted"
+unfoldable pub serveTo : (Step → List ℕ) → Event → List ℕ → Pass → List Step → Result × Pass
+serveTo frame e lent p [] = (refusal 12 lent, p)
+serveTo frame e lent p (s ∷ ss) =
+    cond (tooFew lent)
+    (refusal 19 lent, p)
+    (cond (judged (frame s) e .good)
+    (says frame Good lent (pass ss 0 (p .failed) (foundBy s (p .tries) (judged (frame s) e) (p .boards)) (p .counted + 1)))
     (cond (ltb (p .tries) 2)
-    (says frame Again (pass (s ∷ ss) (p .tries + 1) (p .failed) (p .boards)))
-    (says frame BoardFailed (pass (others (s .board) ss) 0 (p .failed ++ (s ∷ [])) (p .boards))))
+    (says frame Again lent (pass (s ∷ ss) (p .tries + 1) (p .failed) (p .boards) (p .counted + 1)))
+    (says frame BoardFailed lent (pass (others (s .board) ss) 0 (p .failed ++ (s ∷ [])) (p .boards) (p .counted + 1)))))
 
-abbrev pub react : (Step → List ℕ) → Event → Pass → Result × Pass
-react frame e p = reactTo frame e p (p .todo)
+-- the first frame's fetch: "12 once that crate has had a counted reply or time-up in this pass", then 19; it "changes no state"
+unfoldable pub fetchTo : (Step → List ℕ) → List ℕ → Pass → List Step → Result
+fetchTo frame lent p [] = refusal 12 lent
+fetchTo frame lent p (s ∷ ss) =
+    cond (ltb 0 (p .counted))
+    (refusal 12 lent)
+    (cond (tooFew lent) (refusal 19 lent) (record { answer = given firstFrame; bytes = handedOver (frame s ∷ []) lent; frames = [] }))
+
+abbrev pub reactTo : (Step → List ℕ) → Request → List ℕ → Pass → Result × Pass
+reactTo frame (handIn e) lent p = serveTo frame e lent p (p .todo)
+reactTo frame fetch lent p = (fetchTo frame lent p (p .todo), p)
+
+abbrev pub react : (Step → List ℕ) → Lending → Pass → Result × Pass
+react frame x p = reactTo frame (x .0) (x .1) p

@@ -63,8 +63,8 @@ module _ (β : Board) where
   unfolding triggerRules writingRules
   trigger-numbers f out = refuses-from 15 19 (trigger-exactly β f out) tt
 
-  pub reply-numbers : (i : ℕ) (h : Judged) → RefusesFrom 11 12 (replyAnswer β i h)
-  reply-numbers i h = refuses-from 11 12 (reply-exactly β i h) tt
+  pub reply-numbers : (i : ℕ) (h : Judged) (lent : List ℕ) → RefusesFrom 11 19 (replyAnswer β i h lent)
+  reply-numbers i h lent = refuses-from 11 19 (reply-exactly β i h lent) tt
 
   pub frame-numbers : (i : ℕ) (out : List ℕ) → RefusesFrom 11 19 (writing (fetchRules β i) (frameAt β i) out)
   unfolding writingRules

@@ -6,7 +6,7 @@ use mathlib.Core.Logic.{_⊎_, inl, inr, ⊎-elim}
 use mathlib.Core.List.{List}
 use native.Mathlib.Omega.{arith}
 use Rattle.refusals.specs.Tables.{Answer, given, refused, lowest}
-use Rattle.refusals.specs.Writing.{Wrote, writtenMeaning}
+use Rattle.refusals.specs.Writing.{writtenMeaning}
 use Rattle.refusals.specs.declared.Written.{Written}
 use Rattle.refusals.proofs.Tables.{refused-more, refused-applies}
 use Rattle.refusals.proofs.Writing.{refused-keeps}
@@ -22,9 +22,10 @@ use Rattle.run.specs.Run.{triggerAnswer, afterAnswer}
 use Rattle.steps.specs.declared.Judged.{Judged}
 use Rattle.crate_pass.specs.Crate.{replyMeaning}
 use Rattle.board.proofs.Answers.{applies-between}
+use Rattle.board.proofs.Serving.{board-refused, bytes-refused}
 use Rattle.board.specs.State.{statusOf, withRun}
 use Rattle.board.specs.Commands.{boardAnswer, afterCommand, boardAfter, Obeys, afterTriggerOn, TriggersOn}
-use Rattle.board.specs.SlowControl.{frameAt, fetchRules, replyAnswer, afterReply, boardReplied, Replies}
+use Rattle.board.specs.SlowControl.{replyAnswer, Replies, Fetches}
 use Rattle.board.specs.SentOut.{SendsStatic, SendsDynamic, SendsList, SendsFailure}
 use Rattle.board.specs.declared.Board.{Board}
 use Rattle.board.specs.declared.CommandResult.{CommandResult}
@@ -78,10 +79,6 @@ module _ (β : Board) (n p : ℕ) where
   unfolding withRun
   trigger-keeps f out e = ap (λ (a : Answer ℕ). withRun β (afterAnswer (β .run) a)) e
 
-  pub reply-keeps : (i : ℕ) (h : Judged) → replyAnswer β i h ≡ refused n p → boardReplied β i h ≡ β
-  unfolding boardReplied
-  reply-keeps i h e = ap (afterReply β i h) e
-
 -- ---- what a refused call returns, and what it leaves in lent memory
 
 pub record NothingLost (β : Board) : Type 0 where
@@ -90,9 +87,10 @@ pub record NothingLost (β : Board) : Type 0 where
   pub trigger : (f : Fields) (out after : List ℕ) (t : TriggerResult) → TriggersOn β f out t after → (n p : ℕ) → writtenMeaning (t .answer) ≡ refused n p
       → (t .board ≡ β) × (after ≡ out)
   -- a reply or a time-up
-  pub reply : (i : ℕ) (h : Judged) (r : ReplyResult) → Replies β i h r → (n p : ℕ) → replyMeaning (r .answer) ≡ refused n p → r .board ≡ β
-  -- the outstanding frame, and the four blocks
-  pub frame : (i : ℕ) → KeepsOutput (Wrote (fetchRules β i) (frameAt β i))
+  pub reply : (i : ℕ) (h : Judged) (lent after : List ℕ) (r : ReplyResult) → Replies β i h lent r after → (n p : ℕ) → replyMeaning (r .answer) ≡ refused n p
+      → (r .board ≡ β) × (after ≡ lent)
+  -- the first frame, and the four blocks
+  pub frame : (i : ℕ) → KeepsOutput (Fetches β i)
   pub static : KeepsOutput (SendsStatic β)
   pub dynamic : (m : List ℕ) → KeepsOutput (SendsDynamic β m)
   pub list : KeepsOutput (SendsList β)
@@ -106,7 +104,9 @@ nothing-lost β =
           (o .board ∙ command-keeps β n p w e, λ h. o .used ∙ unread-words β n p w e h, λ h. o .used ∙ read-words β n p w e h);
       trigger = λ f out after t o n p q.
           (o .board ∙ trigger-keeps β n p f out (sym (o .packet .answer) ∙ q), refused-keeps _ _ out (t .answer) after (o .packet) n p q);
-      reply = λ i h r o n p q. o .board ∙ reply-keeps β n p i h (sym (o .answer) ∙ q);
+      reply = λ i h lent after r o n p q.
+          let e : replyAnswer β i h lent ≡ refused n p = sym (o .answer) ∙ q in
+          (o .board ∙ board-refused β i h lent n p e, o .bytes ∙ bytes-refused β i h lent n p e);
       frame = λ i out r after w. refused-keeps _ _ out r after w;
       static = λ out r after w. refused-keeps _ _ out r after (w .wrote);
       dynamic = λ m out r after w. refused-keeps _ _ out r after (w .wrote);

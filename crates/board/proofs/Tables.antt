@@ -19,11 +19,12 @@ use Rattle.blocks.proofs.Tables as blocks
 use Rattle.blocks.proofs.Tables.{BlockExactly, block-exactly}
 use Rattle.ftu_list.specs.List.{listBody}
 use Rattle.steps.specs.declared.Judged.{Judged}
-use Rattle.four_crates.specs.FourCrates.{noSuchCrate}
+use Rattle.crate_pass.specs.Crate.{noSuchCrate}
+use Rattle.crate_pass.proofs.Tables as crate-pass
 use Rattle.four_crates.proofs.OneCrate as crates
 use Rattle.board.specs.State.{crateAt, statusOf, powerUpRules, powerUpAnswer}
 use Rattle.board.specs.Commands.{boardAnswer}
-use Rattle.board.specs.SlowControl.{frameAt, fetchRules, movedAt, replyAnswer, sentAnswer}
+use Rattle.board.specs.SlowControl.{frameAt, fetchRules, movedAt, replyRules, replyAnswer, sentAnswer}
 use Rattle.board.specs.SentOut.{headerOf, dynamicBodyOf, listRules, listOf, failureRules, failureBodyOf}
 use Rattle.board.specs.declared.Board.{Board}
 
@@ -45,11 +46,11 @@ module _ (β : Board) where
   pub trigger-exactly : (f : Fields) (out : List ℕ) → WritesExactly (triggerRules (β .run) f) (packetBytes (triggerNumber (β .run)) f) out
   trigger-exactly f out = run.trigger-exactly (β .run) f out
 
-  -- a reply or a time-up: 11, 12
-  pub reply-exactly : (i : ℕ) (h : Judged) → Exactly (fetchRules β i) (movedAt β i h .outcome) (replyAnswer β i h)
-  reply-exactly i h = crates.served-exactly (β .crates) i (β .kind) _ h
+  -- a reply or a time-up: 11, 12, 19
+  pub reply-exactly : (i : ℕ) (h : Judged) (lent : List ℕ) → Exactly (replyRules β i lent) (movedAt β i h .outcome) (replyAnswer β i h lent)
+  reply-exactly i h lent = crate-pass.served-exactly (β .kind) _ i (crateAt β i) h lent
 
-  -- the outstanding frame: 11, 12, 19
+  -- the first frame: 11, 12, 19
   pub frame-exactly : (i : ℕ) (out : List ℕ) → WritesExactly (fetchRules β i) (frameAt β i) out
   unfolding writingRules
   frame-exactly i out = writing-exactly (writingRules (fetchRules β i) (frameAt β i) out) (frameAt β i) out tt

@@ -4,17 +4,15 @@ ghost use mathlib.Core.Bool.{true, cond};
 ghost use Prim.Native.Nat.{_≤_};
 ghost use lib.ListN.{length};
 ghost use Rattle.refusals.specs.Tables.{given};
-ghost use Rattle.refusals.specs.Writing.{Wrote};
 ghost use Rattle.configuration.specs.Configuration.{activeWord};
 ghost use Rattle.commands.specs.declared.Command.the-variants.{Write};
 ghost use Rattle.acceptance.specs.Acceptance.{answerMeaning};
 ghost use Rattle.run.specs.Run.{refreshed};
 ghost use Rattle.crate_pass.specs.declared.PassKind.the-variants.{Reprogramming, Ping};
-ghost use Rattle.steps.specs.Steps.{noReply};
 ghost use Rattle.four_crates.specs.FourCrates.{sentMeaning};
 ghost use Rattle.board.specs.State.{activeWords, isIdle, statusOf, withRun, freshBoard, PowersUp};
 ghost use Rattle.board.specs.Commands.{written, pinged, afterCommand, Obeys, TriggersOn, afterClockStep};
-ghost use Rattle.board.specs.SlowControl.{frameAt, Replies, fetchRules, sentAnswer, judgedAt};
+ghost use Rattle.board.specs.SlowControl.{judgedAt, Replies, Fetches, sentAnswer};
 ghost use Rattle.board.specs.SentOut.{headerOf, SendsStatic, SendsDynamic, SendsList, SendsFailure};
 use acceptance::CommandAnswer;
 use acceptance::Status;
@@ -29,13 +27,13 @@ use crate_pass::Crate;
 use crate_pass::PassKind;
 use crate_pass::ReplyAnswer;
 use crate_pass::crate_at_power_up;
+use four_crates::FirstStep;
 use four_crates::FramesSent;
-use four_crates::Outstanding;
 use four_crates::RecordFound;
 use four_crates::begin_all;
 use four_crates::entries_of;
+use four_crates::first_on;
 use four_crates::in_pass;
-use four_crates::outstanding_on;
 use four_crates::record_at;
 use four_crates::sent_on;
 use ftu_list::FtuList;
@@ -46,8 +44,7 @@ use refusals::Refusal;
 use refusals::Written;
 use run::Run;
 use run::run_at_power_up;
-use steps::judge_reply;
-use steps::no_reply;
+use steps::Event;
 use steps::step_frame;
 use steps::write_frame;
 use words::copy_words;
@@ -320,44 +317,10 @@ impl Board {
         }
     }
 
-    // A reply, of any length, on a crate. One way out and constant places, so that little of the board is copied. (Where there is no such
-    // crate, the fourth is served, and what came of it is dropped.)
-    pub fn reply(mut self, index: u8, bytes: &[u8]) -> ReplyResult
-        ensures { λ r. ⌜ Replies self index (judgedAt self index (now (bytes .entry))) r ⌝ }
-    {
-        let kind = self.kind;
-        let block = self.block;
-        let word = flags_of(block, index);
-        let first = self.crates[0];
-        let second = self.crates[1];
-        let third = self.crates[2];
-        let fourth = self.crates[3];
-        let own = match index {
-            0 => first,
-            1 => second,
-            2 => third,
-            _ => fourth,
-        };
-        let judged = judge_reply(&block, index, own.board, own.code, bytes);
-        let served = own.serve(kind, word, judged);
-        let after = served.state;
-        let mut answer = served.answer;
-        match index {
-            0 => self.crates[0] = after,
-            1 => self.crates[1] = after,
-            2 => self.crates[2] = after,
-            3 => self.crates[3] = after,
-            _ => answer = ReplyAnswer::Refused(Refusal::NoSuchCrate),
-        }
-        ReplyResult {
-            board: self,
-            answer,
-        }
-    }
-
-    // A time-up on a crate, in the same way.
-    pub fn time_up(mut self, index: u8) -> ReplyResult
-        ensures { λ r. ⌜ Replies self index noReply r ⌝ }
+    // A reply, of any length, or a time-up on a crate, and the frame then outstanding into the lent bytes. One way out and constant places, so
+    // that little of the board is copied. (A number above 3 goes to the fourth crate, which answers 11 and stays as it is.)
+    pub fn hand_in(mut self, index: u8, event: Event, bytes: &[u8], out: &mut [u8]) -> ReplyResult
+        ensures { λ r. ⌜ Replies self index (judgedAt self index event (now (bytes .entry))) (now (out .entry)) r (now (out .exit)) ⌝ }
     {
         let kind = self.kind;
         let block = self.block;
@@ -368,16 +331,14 @@ impl Board {
             2 => self.crates[2],
             _ => self.crates[3],
         };
-        let judged = no_reply();
-        let served = own.serve(kind, word, judged);
-        let state = served.state;
-        let mut answer = served.answer;
+        let served = own.serve(kind, word, &block, index, event, bytes, out);
+        let after = served.state;
+        let answer = served.answer;
         match index {
-            0 => self.crates[0] = state,
-            1 => self.crates[1] = state,
-            2 => self.crates[2] = state,
-            3 => self.crates[3] = state,
-            _ => answer = ReplyAnswer::Refused(Refusal::NoSuchCrate),
+            0 => self.crates[0] = after,
+            1 => self.crates[1] = after,
+            2 => self.crates[2] = after,
+            _ => self.crates[3] = after,
         }
         ReplyResult {
             board: self,
@@ -385,18 +346,18 @@ impl Board {
         }
     }
 
-    // The frame outstanding on a crate, into lent bytes.
-    pub fn outstanding_frame(self, index: u8, out: &mut [u8]) -> Written
-        ensures { λ r. ⌜ Wrote (fetchRules self index) (frameAt self index) (now (out .entry)) r (now (out .exit)) ⌝ }
+    // The first frame of the pass on a crate, into lent bytes.
+    pub fn first_frame(self, index: u8, out: &mut [u8]) -> Written
+        ensures { λ r. ⌜ Fetches self index (now (out .entry)) r (now (out .exit)) ⌝ }
     {
         let crates = self.crates;
         let block = self.block;
-        match outstanding_on(crates, index) {
-            Outstanding::Step(board, code) => write_frame(
+        match first_on(crates, index) {
+            FirstStep::Step(board, code) => write_frame(
                 step_frame(&block, index, board, code),
                 out,
             ),
-            Outstanding::Refused(r) => Written::Refused(r),
+            FirstStep::Refused(r) => Written::Refused(r),
         }
     }
 

@@ -1,10 +1,14 @@
-// 01's examples of passes, and streams that get every answer a stream can get, worked by the code: each line names the example, and gives what
-// the board answered.
+// 01's examples of passes, streams that get every answer a stream can get, and replies, time-ups and fetches with 0, 27, 28 and 40 bytes lent (02, d),
+// worked by the code: each line names the example, and gives what the board answered.
 use board::Board;
 use board::power_up;
+use crate_pass::Outcome;
+use crate_pass::ReplyAnswer;
 use crc::crc8;
 use four_crates::FramesSent;
 use libc::STDOUT_FILENO;
+use refusals::Written;
+use steps::Event;
 use stream::list_answers;
 use words::bytes_from_words;
 
@@ -26,23 +30,27 @@ fn write_with(at: usize, word: u16) -> [u16; 441] {
     words
 }
 
-// A fresh board that was sent words.
-fn sent(words: &[u16]) -> Board {
+// A board, and the frame that was last handed out on its crate 0.
+struct Line {
+    board: Board,
+    frame: [u8; 28],
+}
+
+// A fresh board that was sent words, and its first frame, where there is one.
+fn sent(words: &[u16]) -> Line {
     let up = power_up(1, 1);
-    let board = up.board;
-    let done = board.obey(words);
-    done.board
+    let fresh = up.board;
+    let done = fresh.obey(words);
+    let board = done.board;
+    let mut frame = [0u8; 28];
+    board.first_frame(0, &mut frame);
+    Line { board, frame }
 }
 
 // The same after a write with crate 0's active flags.
-fn written(flags: u16) -> Board {
+fn written(flags: u16) -> Line {
     let words = write_with(0x1B0, flags);
     sent(&words)
-}
-
-fn time_up(board: Board) -> Board {
-    let r = board.time_up(0);
-    r.board
 }
 
 // A frame with the addresses exchanged and its CRC: what a board answers.
@@ -56,21 +64,26 @@ fn exchanged(frame: [u8; 28]) -> [u8; 28] {
     f
 }
 
-fn good_reply(board: Board) -> Board {
-    let mut frame = [0u8; 28];
-    board.outstanding_frame(0, &mut frame);
+// A good reply to the frame that was handed out, or a time-up.
+fn after(line: Line, event: Event) -> Line {
+    let board = line.board;
+    let mut frame = line.frame;
     let reply = exchanged(frame);
-    let r = board.reply(0, &reply);
-    r.board
+    let r = board.hand_in(0, event, &reply, &mut frame);
+    let next = r.board;
+    Line { board: next, frame }
 }
 
-fn third_try(board: Board) -> Board {
-    good_reply(time_up(time_up(board)))
+fn time_up(line: Line) -> Line {
+    after(line, Event::TimeUp)
+}
+
+fn third_try(line: Line) -> Line {
+    after(time_up(time_up(line)), Event::Reply)
 }
 
 // How many frames were sent on crate 0, and whether the board is idle.
-fn tell(name: &[u8], board: Board) {
-    text(name);
+fn tell_board(board: Board) {
     match board.frames_sent(0) {
         FramesSent::Number(n) => decimal(n as u64),
         FramesSent::Refused(_) => text(b"no such crate"),
@@ -80,6 +93,177 @@ fn tell(name: &[u8], board: Board) {
     } else {
         text(b" frames, in a pass\n");
     }
+}
+
+fn tell(name: &[u8], line: Line) {
+    let board = line.board;
+    text(name);
+    tell_board(board);
+}
+
+// ---- 02, d: lent bytes
+
+fn hexadecimal_byte(b: u8) {
+    io::print_hex(STDOUT_FILENO, b as u64, 2);
+}
+
+// Bytes in hexadecimal, a line.
+fn hexadecimal(name: &[u8], bytes: &[u8]) {
+    text(name);
+    let mut i = 0;
+    while i < bytes.len() {
+        hexadecimal_byte(bytes[i]);
+        i += 1;
+    }
+    text(b"\n");
+}
+
+// What the bytes hold before they are lent.
+fn fill(bytes: &mut [u8]) {
+    let mut i = 0;
+    while i < bytes.len() {
+        bytes[i] = 0xA5;
+        i += 1;
+    }
+}
+
+// The begin of a line, and the bytes before the call.
+fn tell_lent(name: &[u8], bytes: &[u8]) {
+    text(name);
+    decimal(bytes.len() as u64);
+    text(b" bytes lent");
+    hexadecimal(b"\n  before ", bytes);
+    text(b"  ");
+}
+
+fn tell_done(done: bool) {
+    if done {
+        text(b" done");
+    }
+}
+
+// What a reply or a time-up got.
+fn tell_answer(answer: ReplyAnswer) {
+    match answer {
+        ReplyAnswer::Served(o) => match o {
+            Outcome::Good(done) => {
+                text(b"good");
+                tell_done(done);
+            }
+            Outcome::Again(done) => {
+                text(b"again");
+                tell_done(done);
+            }
+            Outcome::BoardFailed(done) => {
+                text(b"failed");
+                tell_done(done);
+            }
+        },
+        ReplyAnswer::Refused(r) => decimal(r.number() as u64),
+    }
+}
+
+// A good reply or a time-up on crate 0, with these bytes lent.
+fn lend(name: &[u8], line: Line, event: Event, bytes: &mut [u8]) {
+    let board = line.board;
+    let frame = line.frame;
+    let reply = exchanged(frame);
+    fill(bytes);
+    tell_lent(name, bytes);
+    let r = board.hand_in(0, event, &reply, bytes);
+    let answer = r.answer;
+    let next = r.board;
+    tell_answer(answer);
+    text(b", ");
+    tell_board(next);
+    hexadecimal(b"  after  ", bytes);
+}
+
+// The first frame of crate 0, with these bytes lent.
+fn fetch(name: &[u8], line: Line, bytes: &mut [u8]) {
+    let board = line.board;
+    fill(bytes);
+    tell_lent(name, bytes);
+    match board.first_frame(0, bytes) {
+        Written::Length(n) => decimal(n as u64),
+        Written::Refused(r) => decimal(r.number() as u64),
+    }
+    text(b", ");
+    tell_board(board);
+    hexadecimal(b"  after  ", bytes);
+}
+
+// A frame is due.
+fn lend_due(bytes: &mut [u8]) {
+    lend(
+        b"A good reply, a frame due, ",
+        written(1),
+        Event::Reply,
+        bytes,
+    );
+}
+
+// The crate is then done.
+fn lend_done(bytes: &mut [u8]) {
+    let line = time_up(time_up(written(1)));
+    lend(
+        b"A time-up, the crate then done, ",
+        line,
+        Event::TimeUp,
+        bytes,
+    );
+}
+
+// Nothing is outstanding.
+fn lend_none(bytes: &mut [u8]) {
+    lend(
+        b"A time-up, nothing outstanding, ",
+        written(0),
+        Event::TimeUp,
+        bytes,
+    );
+}
+
+// These with 0, 27, 28 and 40 bytes lent.
+fn lend_bytes() {
+    let mut one = [0u8; 1];
+    let mut few = [0u8; 27];
+    let mut enough = [0u8; 28];
+    let mut more = [0u8; 40];
+    lend_due(&mut one[..0]);
+    lend_due(&mut few);
+    lend_due(&mut enough);
+    lend_due(&mut more);
+    lend_done(&mut one[..0]);
+    lend_done(&mut few);
+    lend_done(&mut enough);
+    lend_done(&mut more);
+    lend_none(&mut few);
+    lend_none(&mut enough);
+}
+
+// The first frame, with as many.
+fn fetch_bytes() {
+    let mut one = [0u8; 1];
+    let mut few = [0u8; 27];
+    let mut enough = [0u8; 28];
+    let mut more = [0u8; 40];
+    fetch(b"The first frame, ", written(1), &mut one[..0]);
+    fetch(b"The first frame, ", written(1), &mut few);
+    fetch(b"The first frame, ", written(1), &mut enough);
+    fetch(b"The first frame, ", written(1), &mut more);
+}
+
+// It is refused after a counted time-up.
+fn fetch_late() {
+    let mut few = [0u8; 27];
+    let mut enough = [0u8; 28];
+    fetch(b"After a counted time-up, ", time_up(written(1)), &mut few);
+    fetch(
+        b"After a counted time-up, ",
+        time_up(written(1)),
+        &mut enough,
+    );
 }
 
 // The answer of an ordinal, where there is one.
@@ -124,7 +308,8 @@ fn write_and_start() {
     stream(b"A write, a start, three words:", &words);
 }
 
-fn main() {
+// The examples of passes.
+fn passes() {
     tell(
         b"One active board that never answers: ",
         time_up(time_up(time_up(written(1)))),
@@ -136,6 +321,10 @@ fn main() {
     );
     tell(b"No active board: ", written(0));
     tell(b"A ping: ", sent(&[0x0040, 0x10, 0, 0, 0]));
+}
+
+// The streams.
+fn streams() {
     stream(
         b"A read, a ping, a crate reset:",
         &[
@@ -169,4 +358,12 @@ fn main() {
         b"A stop, then a start:",
         &[0x0040, 0x08, 0, 0, 0, 0x0040, 0x04, 1, 0, 0],
     );
+}
+
+fn main() {
+    passes();
+    streams();
+    lend_bytes();
+    fetch_bytes();
+    fetch_late();
 }

@@ -12,8 +12,8 @@ use borrow.Author.Tests.{le-leb, lt-leb}
 use Rattle.cells.proofs.Order.{Head, here, other, head, Side, high, low, side, only-take, only-skip, from-take, from-skip, only-below-none, only-ordered}
 use Rattle.cells.specs.Order.{only, from, below, ordered}
 
--- ---- cells: `f c s e` is what cell c at s gives for the event e, and what it is then; `no` is given where there is no such cell
-module _ {S E O : Type 0} (d : S) (f : ℕ → S → E → O × S) (no : O) where
+-- ---- cells: `f c s e` is what cell c at s gives for the event e, and what it is then; `no e` is given where there is no such cell
+module _ {S E O : Type 0} (d : S) (f : ℕ → S → E → O × S) (no : E → O) where
   abbrev pub Item : Type 0
   Item = ℕ × E
 
@@ -25,7 +25,7 @@ module _ {S E O : Type 0} (d : S) (f : ℕ → S → E → O × S) (no : O) wher
 
   -- one item, on all the cells
   unfoldable pub one : List S → Item → O × List S
-  one cs x = cond (leb (length cs) (x .0)) (no, cs) (f (x .0) (getD cs (x .0) d) (x .1) .0, set cs (x .0) (f (x .0) (getD cs (x .0) d) (x .1) .1))
+  one cs x = cond (leb (length cs) (x .0)) (no (x .1), cs) (f (x .0) (getD cs (x .0) d) (x .1) .0, set cs (x .0) (f (x .0) (getD cs (x .0) d) (x .1) .1))
 
   unfoldable pub end : List S → List Item → List S
   end cs [] = cs
@@ -45,7 +45,7 @@ module _ {S E O : Type 0} (d : S) (f : ℕ → S → E → O × S) (no : O) wher
   outAlone c s (x ∷ xs) = (x, f c s (x .1) .0) ∷ outAlone c (f c s (x .1) .1) xs
 
   -- what one item does: nothing where there is no such cell, and else a step of that cell
-  pub one-high : (cs : List S) (x : Item) → length cs ≤ x .0 → one cs x ≡ (no, cs)
+  pub one-high : (cs : List S) (x : Item) → length cs ≤ x .0 → one cs x ≡ (no (x .1), cs)
   unfolding one
   one-high cs x h = rw (le-leb _ _ h)
 
@@ -135,7 +135,7 @@ module _ {S E O : Type 0} (d : S) (f : ℕ → S → E → O × S) (no : O) wher
   -- items that no cell has
   unfoldable pub turned : List Item → List (Item × O)
   turned [] = []
-  turned (x ∷ xs) = (x, no) ∷ turned xs
+  turned (x ∷ xs) = (x, no (x .1)) ∷ turned xs
 
   pub out-from : (cs : List S) (xs : List Item) → from indexOf (length cs) (out cs xs) ≡ turned (from index (length cs) xs)
   unfolding out from turned
@@ -158,7 +158,7 @@ module _ {S E O : Type 0} (d : S) (f : ℕ → S → E → O × S) (no : O) wher
           → out cs (from index (length cs) (x ∷ xs)) ≡ turned (from index (length cs) (x ∷ xs))
       go (high e) ih =
           rw (from-take index (length cs) x xs e)
-          (rw (one-high cs x e) (ap (λ l. (x, no) ∷ l) ih))
+          (rw (one-high cs x e) (ap (λ l. (x, no (x .1)) ∷ l) ih))
       go (low e) ih = rw (from-skip index (length cs) x xs e) ih
 
   -- ---- the law

@@ -251,7 +251,7 @@ module _ {Z Y : Type 0} (key : Z → ℕ) (index : Y → ℕ) (f : Z → Y) (sam
   map-head true z zs ys e = ap (λ (l : List Y). f z ∷ l) e
   map-head false z zs ys e = e
 
-  map-only : (c : ℕ) (zs : List Z) → map f (only key c zs) ≡ only index c (map f zs)
+  pub map-only : (c : ℕ) (zs : List Z) → map f (only key c zs) ≡ only index c (map f zs)
   unfolding only
   map-only c [] = refl
   map-only c (z ∷ zs) = rw (same z) (map-head (eqb (key z) c) z (only key c zs) (only index c (map f zs)) (map-only c zs))

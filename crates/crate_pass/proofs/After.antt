@@ -3,17 +3,22 @@
 use Prim.Native.Nat.{ℕ, _+_, _<_, _≤_}
 use mathlib.Core.Path.{_≡_, refl}
 use mathlib.Core.Bool.{Bool, true, false, cond}
+use mathlib.Core.List.{List}
 use lib.Dec.{ltb}
+use lib.ListN.{length}
 use borrow.Author.Tests.{ltb-true, ltb-false, leb-false}
+use Rattle.refusals.specs.Tables.{given, refused}
 use Rattle.steps.specs.declared.Judged.{Judged}
 use Rattle.crate_pass.specs.declared.PassKind.{PassKind}
 use Rattle.crate_pass.specs.declared.Crate.{Crate}
-use Rattle.crate_pass.specs.Crate.{isDone, placed, advanced, stepped, withEntry, withRecord, afterGoodReply, afterFailedSend, moved, crateAfter}
+use Rattle.crate_pass.specs.Crate.{isDone, placed, advanced, stepped, withEntry, withRecord, afterGoodReply, afterFailedSend, moved}
+use Rattle.crate_pass.specs.Crate.{unlessRefused}
+use Rattle.crate_pass.proofs.Answered.{crateAnswer, crateAfter}
 
 module _ (kind : PassKind) (w : ℕ) (k : Crate) (h : Judged) (P : Crate → Type 0) where
-  -- P holds of the crate where nothing is outstanding, after a good reply, and after another or none
+  -- P holds of the crate as it was, after a good reply, and after another or none
   pub record Each : Type 0 where
-    pub done : P k
+    pub same : P k
     pub next-step : k .board < 10 → h .good ≡ true → k .code < 3 → P (placed (withEntry k h) (k .board) (k .code + 1) 0)
     pub next-board : k .board < 10 → h .good ≡ true → 3 ≤ k .code → P (advanced kind w (withEntry k h))
     pub again : k .board < 10 → k .tries < 2 → P (placed k (k .board) (k .code) (k .tries + 1))
@@ -43,10 +48,12 @@ module _ (kind : PassKind) (w : ℕ) (k : Crate) (h : Judged) (P : Crate → Typ
         go true e = after-good d e
         go false e = after-other d
 
-    pub after-any : P (crateAfter kind w k h)
-    unfolding crateAfter
-    after-any = go (isDone k) refl
+    pub after-any : (lent : List ℕ) → P (crateAfter kind w k h lent)
+    unfolding crateAfter crateAnswer
+    after-any lent = go (isDone k) (ltb (length lent) 28) refl
       where
-        go : (t : Bool) → isDone k ≡ t → P (cond t k (moved kind w k h .state))
-        go true e = each .done
-        go false e = after-moved (leb-false _ _ e)
+        go : (t u : Bool) → isDone k ≡ t
+            → P (unlessRefused (cond t (refused 12 0) (cond u (refused 19 0) (given (moved kind w k h .outcome)))) (moved kind w k h .state) k)
+        go true u e = each .same
+        go false true e = each .same
+        go false false e = after-moved (leb-false _ _ e)

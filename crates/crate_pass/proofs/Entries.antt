@@ -11,8 +11,9 @@ use Rattle.steps.specs.declared.Judged.{Judged}
 use Rattle.crate_pass.specs.declared.PassKind.{PassKind}
 use Rattle.crate_pass.specs.declared.PassKind.the-variants.{Reprogramming, Ping}
 use Rattle.crate_pass.specs.declared.Crate.{Crate}
-use Rattle.crate_pass.specs.Crate.{silent, asEntries, entriesIn, begunCrate, placed, advanced, withEntryIn, withEntry, withRecord, crateAfter}
+use Rattle.crate_pass.specs.Crate.{silent, asEntries, entriesIn, begunCrate, placed, advanced, withEntryIn, withEntry, withRecord}
 use Rattle.crate_pass.proofs.After.{after-any}
+use Rattle.crate_pass.proofs.Answered.{crateAfter}
 
 abbrev pub entry : ℕ → ℕ → ℕ → Entry
 entry d n e = record { dna = d; calls = n; «crc_errors» = e }
@@ -49,14 +50,16 @@ unfolding begunCrate
 entries-kept w k = refl
 
 -- a reply or a time-up leaves the list as it was, where the frame was not a ping
-pub entries-stay : (kind : PassKind) (w : ℕ) (k : Crate) (h : Judged) → (k .code ≡ 4 → ⊥) → entriesIn (crateAfter kind w k h) ≡ entriesIn k
+pub entries-stay : (kind : PassKind) (w : ℕ) (k : Crate) (h : Judged) (lent : List ℕ) → (k .code ≡ 4 → ⊥)
+    → entriesIn (crateAfter kind w k h lent) ≡ entriesIn k
 unfolding withEntry withEntryIn withRecord advanced placed
-entries-stay kind w k h n =
+entries-stay kind w k h lent n =
     after-any kind w k h (λ (q : Crate). entriesIn q ≡ entriesIn k)
     (record {
-      done = refl;
+      same = refl;
       next-step = λ d g l. rw (ne-eqb _ _ n);
       next-board = λ d g l. rw (ne-eqb _ _ n);
       again = λ d l. refl;
       failed = λ d l. refl;
     })
+    lent

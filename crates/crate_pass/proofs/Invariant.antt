@@ -15,9 +15,10 @@ use Rattle.crate_pass.specs.declared.PassKind.{PassKind}
 use Rattle.crate_pass.specs.declared.PassKind.the-variants.{Reprogramming, Ping}
 use Rattle.crate_pass.specs.declared.Crate.{Crate}
 use Rattle.crate_pass.specs.Crate.{serves, firstServed, nextBoard, firstCode, crateAtPowerUp, kept, begunCrate}
-use Rattle.crate_pass.specs.Crate.{placed, advanced, callsAt, withEntryIn, withEntry, withRecord, crateAfter}
+use Rattle.crate_pass.specs.Crate.{placed, advanced, callsAt, withEntryIn, withEntry, withRecord}
 use Rattle.crate_pass.specs.Invariant.{IsCode, CallsKept, DnaKept, FailedIn, CrateInvariant}
 use Rattle.crate_pass.proofs.After.{after-any}
+use Rattle.crate_pass.proofs.Answered.{crateAfter}
 
 -- ---- of lists of numbers, a number for each board
 
@@ -183,11 +184,11 @@ module _ (kind : PassKind) (w : ℕ) where
             failed = s .failed;
           }
 
-      pub sound-after : CrateInvariant kind k → CrateInvariant kind (crateAfter kind w k h)
-      sound-after s =
+      pub sound-after : (lent : List ℕ) → CrateInvariant kind k → CrateInvariant kind (crateAfter kind w k h lent)
+      sound-after lent s =
           after-any kind w k h (CrateInvariant kind)
           (record {
-            done = s;
+            same = s;
             next-step = λ d g l.
                 sound-placed (withEntry k h) (k .board) (k .code + 1) 0 (s .board) (λ u. next-is kind (k .code) (s .code d) l) (omega arith)
                 (sound-noted g s);
@@ -195,3 +196,4 @@ module _ (kind : PassKind) (w : ℕ) where
             again = λ d l. sound-placed k (k .board) (k .code) (k .tries + 1) (s .board) (s .code) (omega arith) s;
             failed = λ d l. sound-advanced (withRecord k) (sound-marked k d s);
           })
+          lent

@@ -1,5 +1,6 @@
 -- Laws that belong to no one function.
 pub mod Next
+pub mod Answered
 pub mod Serving
 pub mod After
 pub mod Entries

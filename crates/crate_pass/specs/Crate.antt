@@ -1,13 +1,16 @@
 -- 01, Slow control: one crate in a pass. Its place is a board and a code; crates/any_order shows that it follows the steps of a pass.
 use Prim.Native.Nat.{ℕ, zero, suc, _+_, _-_}
 use mathlib.Core.Path.{_≡_}
-use mathlib.Core.Bool.{Bool, true, false, cond}
+use mathlib.Core.Bool.{Bool, true, false, cond, _||_}
 use mathlib.Core.List.{List, [], _∷_}
 use lib.Dec.{ltb, leb, eqb}
 use lib.ListN.{set, replicate}
-use Rattle.refusals.specs.Tables.{Answer, given, Rule, rule, lowest, refusalMeaning}
+use Rattle.refusals.specs.Tables.{Answer, given, refused, Rule, rule, lowest, refusalMeaning}
+use Rattle.refusals.specs.Writing.{tooShort, outputAfter}
 use Rattle.configuration.specs.Configuration.{flagSet}
 use Rattle.ftu_list.specs.declared.Entry.{Entry}
+use Rattle.steps.specs.Steps.{stepFrame, judgedEvent}
+use Rattle.steps.specs.declared.Event.{Event}
 use Rattle.steps.specs.declared.Judged.{Judged}
 use Rattle.crate_pass.specs.declared.PassKind.{PassKind}
 use Rattle.crate_pass.specs.declared.PassKind.the-variants.{Reprogramming, Ping}
@@ -16,6 +19,7 @@ use Rattle.crate_pass.specs.declared.Outcome.the-variants.{Good, Again, 
 use Rattle.crate_pass.specs.declared.ReplyAnswer.{ReplyAnswer}
 use Rattle.crate_pass.specs.declared.ReplyAnswer.the-variants.{Served, Refused}
 use Rattle.crate_pass.specs.declared.Crate.{Crate}
+use Rattle.crate_pass.specs.declared.Moved.{Moved}
 use Rattle.crate_pass.specs.declared.CrateResult.{CrateResult}
 
 -- "In a reprogramming pass each crate serves its active boards ..; in a ping, all ten"
@@ -162,14 +166,14 @@ withRecord k =
 
 -- ---- replies and time-ups
 
--- an outcome, with the crate after it
-pub record Moved : Type 0 where
-  pub outcome : Outcome
-  pub state : Crate
-
 -- an outcome says "whether the crate is done"
 abbrev pub withOutcome : (Bool → Outcome) → Crate → Moved
-withOutcome outcome k = record { outcome = outcome (isDone k); state = k }
+withOutcome outcome k = record { state = k; outcome = outcome (isDone k) }
+
+abbrev pub saysDone : Outcome → Bool
+saysDone (Good done) = done
+saysDone (Again done) = done
+saysDone (BoardFailed done) = done
 
 -- "A good reply moves to the next step"
 unfoldable pub afterGoodReply : PassKind → ℕ → Crate → Judged → Moved
@@ -191,17 +195,40 @@ abbrev pub replyMeaning : ReplyAnswer → Answer Outcome
 replyMeaning (Served o) = given o
 replyMeaning (Refused r) = refusalMeaning r
 
--- "12: nothing outstanding there"
-abbrev pub crateRules : Crate → List Rule
-crateRules k = rule 12 (isDone k) ∷ []
+-- ---- on the crate of a number, with lent bytes
 
-unfoldable pub crateAnswer : PassKind → ℕ → Crate → Judged → Answer Outcome
-crateAnswer kind w k h = lowest (crateRules k) (moved kind w k h .outcome)
+-- "11: crate above 3"
+abbrev pub noSuchCrate : ℕ → Rule
+noSuchCrate c = rule 11 (ltb 3 c)
 
-unfoldable pub crateAfter : PassKind → ℕ → Crate → Judged → Crate
-crateAfter kind w k h = cond (isDone k) k (moved kind w k h .state)
+-- 02, d: "Refusals: 11, 12, then 19 whenever fewer than 28 bytes are lent"; "12: nothing outstanding there"
+abbrev pub servedRules : ℕ → Crate → List ℕ → List Rule
+servedRules c k lent = noSuchCrate c ∷ rule 12 (isDone k) ∷ tooShort 28 lent ∷ []
 
--- the crate answered r
-pub record Serves (kind : PassKind) (w : ℕ) (k : Crate) (h : Judged) (r : CrateResult) : Type 0 where
-  pub answer : replyMeaning (r .answer) ≡ crateAnswer kind w k h
-  pub state : r .state ≡ crateAfter kind w k h
+unfoldable pub servedAnswer : PassKind → ℕ → ℕ → Crate → Judged → List ℕ → Answer Outcome
+servedAnswer kind w c k h lent = lowest (servedRules c k lent) (moved kind w k h .outcome)
+
+-- a refused reply or time-up "is then not counted"
+abbrev pub unlessRefused : {A : Type 0} → Answer Outcome → A → A → A
+unlessRefused (given o) next same = next
+unlessRefused (refused n p) next same = same
+
+-- what follows the frame outstanding there, judged by it
+abbrev pub judgedOn : List ℕ → ℕ → Crate → Event → List ℕ → Judged
+judgedOn block c k event bytes = judgedEvent event (stepFrame block c (k .board) (k .code)) bytes
+
+-- the frame outstanding on crate c, with the stored block; none where the crate is done
+unfoldable pub frameDue : List ℕ → ℕ → Crate → List ℕ
+frameDue block c k = cond (isDone k) [] (stepFrame block c (k .board) (k .code))
+
+-- crate c answered r to what was judged as h, and the lent bytes became `after`: "the next frame, or word that the crate is done and the bytes
+-- untouched" (02, d)
+pub record Serves (kind : PassKind) (w : ℕ) (block : List ℕ) (c : ℕ) (k : Crate) (h : Judged) (lent : List ℕ) (r : CrateResult) (after : List ℕ) : Type 0 where
+  pub answer : replyMeaning (r .answer) ≡ servedAnswer kind w c k h lent
+  pub state : r .state ≡ unlessRefused (servedAnswer kind w c k h lent) (moved kind w k h .state) k
+  pub bytes : after ≡ outputAfter (servedAnswer kind w c k h lent) (frameDue block c (moved kind w k h .state)) lent
+
+-- the first frame's fetch gets "12 once that crate has had a counted reply or time-up in this pass" too (02, d): while a frame is outstanding, the
+-- frames sent are one more than these
+abbrev pub firstRule : Crate → Rule
+firstRule k = rule 12 (isDone k || ltb 1 (k .sent))

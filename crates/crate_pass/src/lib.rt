@@ -1,11 +1,17 @@
 // One crate's part in a pass: the frame that is outstanding on it, its tries, its number of frames, what failed, and its part of the FTU list.
 ghost use mathlib.Core.Path.{_≡_};
 ghost use Prim.Native.Nat.{_<_};
-ghost use Rattle.crate_pass.specs.Crate.{nextBoard, firstCode, callsAt, clearsList, crateAtPowerUp, isDone, sentAt, begunCrate, countedFrame, Serves};
+ghost use Rattle.crate_pass.specs.Crate.{nextBoard, firstCode, callsAt, clearsList, crateAtPowerUp, isDone, sentAt, begunCrate, countedFrame};
+ghost use Rattle.crate_pass.specs.Crate.{moved, judgedOn, Serves};
+ghost use Rattle.crate_pass.specs.declared.ReplyAnswer.the-variants.{Refused};
 ghost use Rattle.crate_pass.specs.CodeShape.{nextPlace, placeAfter};
 use configuration::flag_set;
 use refusals::Refusal;
+use steps::Event;
 use steps::Judged;
+use steps::judge_event;
+use steps::step_frame;
+use steps::write_frame;
 
 pub enum PassKind {
     Reprogramming,
@@ -48,6 +54,12 @@ pub struct Place {
     pub board: u8,
     pub code: u8,
     pub tries: u8,
+}
+
+// How a reply or a time-up was served, with the crate after it.
+pub struct Moved {
+    pub state: Crate,
+    pub outcome: Outcome,
 }
 
 // An answer, with the crate after it.
@@ -179,6 +191,16 @@ pub fn crate_at_power_up() -> Crate
     }
 }
 
+// A refusal, which leaves the crate as it is.
+fn refused(state: Crate, refusal: Refusal) -> CrateResult
+    ensures { λ r. ⌜ (r .state ≡ state) × (r .answer ≡ Refused refusal) ⌝ }
+{
+    CrateResult {
+        state,
+        answer: ReplyAnswer::Refused(refusal),
+    }
+}
+
 impl Crate {
     // Whether no frame is outstanding.
     pub fn is_done(self) -> bool
@@ -205,21 +227,15 @@ impl Crate {
         self
     }
 
-    // What a reply or a time-up does to the crate, and what it gets. The crate is changed in place, in one function, so that it is not
-    // copied from step to step.
-    pub fn serve(mut self, kind: PassKind, word: u16, judged: Judged) -> CrateResult
-        ensures { λ r. ⌜ Serves kind word self judged r ⌝ }
+    // Where a reply or a time-up leads. The crate is changed in place, in one function, so that it is not copied from step to step.
+    fn moved(mut self, kind: PassKind, word: u16, judged: Judged) -> Moved
+        requires { ⌜ self .board < 10 ⌝ }
+        ensures { λ r. ⌜ r ≡ moved kind word self judged ⌝ }
     {
         let board = self.board;
         let code = self.code;
         let tries = self.tries;
         let sent = self.sent;
-        if 10 <= board {
-            return CrateResult {
-                state: self,
-                answer: ReplyAnswer::Refused(Refusal::NothingOutstanding),
-            };
-        }
         let at = board as usize;
         let to = place_after(kind, word, Place { board, code, tries }, judged.good);
         let done = 10 <= to.board;
@@ -233,21 +249,59 @@ impl Crate {
                 self.calls[at] = calls_at(tries);
                 self.crc_errors[at] = judged.crc_errors;
             }
-            return CrateResult {
+            return Moved {
                 state: self,
-                answer: ReplyAnswer::Served(Outcome::Good(done)),
+                outcome: Outcome::Good(done),
             };
         }
         if tries < 2 {
-            return CrateResult {
+            return Moved {
                 state: self,
-                answer: ReplyAnswer::Served(Outcome::Again(done)),
+                outcome: Outcome::Again(done),
             };
         }
         self.failed[at] = code;
-        CrateResult {
+        Moved {
             state: self,
-            answer: ReplyAnswer::Served(Outcome::BoardFailed(done)),
+            outcome: Outcome::BoardFailed(done),
+        }
+    }
+
+    // A reply or a time-up on the crate of this number, judged by the frame outstanding there: what it does to the crate, what it gets, and into
+    // the lent bytes the frame then outstanding.
+    pub fn serve(
+        self,
+        kind: PassKind,
+        word: u16,
+        block: &[u16],
+        index: u8,
+        event: Event,
+        bytes: &[u8],
+        out: &mut [u8],
+    ) -> CrateResult
+        ensures { λ r.
+            ⌜ Serves kind word (now (block .entry)) index self (judgedOn (now (block .entry)) index self event (now (bytes .entry)))
+            (now (out .entry)) r (now (out .exit)) ⌝ }
+    {
+        if 3 < index {
+            return refused(self, Refusal::NoSuchCrate);
+        }
+        if 10 <= self.board {
+            return refused(self, Refusal::NothingOutstanding);
+        }
+        if out.len() < 28 {
+            return refused(self, Refusal::OutputTooShort);
+        }
+        let judged = judge_event(block, index, self.board, self.code, event, bytes);
+        let served = self.moved(kind, word, judged);
+        let state = served.state;
+        let outcome = served.outcome;
+        if state.board < 10 {
+            write_frame(step_frame(block, index, state.board, state.code), out);
+        }
+        CrateResult {
+            state,
+            answer: ReplyAnswer::Served(outcome),
         }
     }
 }

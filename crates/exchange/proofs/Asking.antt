@@ -32,7 +32,7 @@ use Rattle.responses.specs.Responses.{duePrinted, writtenPrinted, Prints, Print
 use Rattle.responses.specs.CodeShape.{PrintsInBytes, PrintsInWords}
 use Rattle.responses.proofs.Writing.{table-response, due-response}
 use Rattle.script.specs.Forms.{taking, oneByte, noByte, anyWords}
-use Rattle.exchange.specs.Orders.{Order, otherForm, outstanding, framesSent, static, ftuList, failure, dynamic}
+use Rattle.exchange.specs.Orders.{Order, otherForm, firstFrame, framesSent, static, ftuList, failure, dynamic}
 use Rattle.exchange.specs.Exchange.{blockPrinted, sentPrinted, printedAnswer}
 
 -- ---- what is printed of a block that was written: 19 is left out, where the lent words have room for it
@@ -76,7 +76,7 @@ question-response β t o e = sym (ap (λ (u : Bool). printedAnswer β (taking ot
 module _ (β : Board) (b : List ℕ) (s : Response) where
   module _ (out after : List ℕ) (w : Written) where
     pub frame-asked : length b ≡ 1 → length out ≡ 28 → Wrote (fetchRules β (getD b 0 0)) (frameAt β (getD b 0 0)) out w after
-        → PrintsWrittenBytes s (writtenMeaning w) → PrintsInBytes s after (printedAnswer β (oneByte otherForm outstanding b))
+        → PrintsWrittenBytes s (writtenMeaning w) → PrintsInBytes s after (printedAnswer β (oneByte otherForm firstFrame b))
     unfolding printedAnswer
     frame-asked l n h k words =
         let d = length-frame β (getD b 0 0) in

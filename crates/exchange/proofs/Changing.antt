@@ -1,16 +1,18 @@
 -- Orders that may change the board, one law for each way that a function returns.
 -- Assumes nothing.
 use Prim.Native.Nat.{ℕ, _/_, _%_}
-use mathlib.Core.Path.{_≡_, refl, sym, ap, ap₂, _∙_}
-use mathlib.Core.Bool.{Bool, true, false}
-use mathlib.Core.List.{List, [], _∷_}
+use mathlib.Core.Path.{_≡_, refl, sym, ap, ap₂, _∙_, subst}
+use mathlib.Core.Bool.{Bool, true, false, cond}
+use mathlib.Core.List.{List, [], _∷_, _++_, append-nil}
 use native.Mathlib.Omega.{arith}
-use lib.ListN.{length, getD, take, drop}
+use lib.Dec.{ltb}
+use lib.ListN.{length, getD, set, take, drop, drop-of-length-le}
 use borrow.Author.Tests.{eq-eqb}
 use Rattle.refusals.specs.Refusals.{numberOf, placeOf}
-use Rattle.refusals.specs.Tables.{Answer, given, refused, lowest}
-use Rattle.refusals.specs.Writing.{writtenMeaning}
+use Rattle.refusals.specs.Tables.{Answer, given, refused, rule, lowest}
+use Rattle.refusals.specs.Writing.{writtenMeaning, outputAfter}
 use Rattle.refusals.specs.declared.Refusal.{Refusal}
+use Rattle.refusals.proofs.Tables.{given-same}
 use Rattle.refusals.proofs.Writing.{room-writing}
 use Rattle.numbers.specs.Numbers.{number}
 use Rattle.numbers.proofs.Listed.{listed}
@@ -20,28 +22,36 @@ use Rattle.words.proofs.Front.{number-in}
 use Rattle.packets.specs.Packets.{firstSix, packetBytes}
 use Rattle.packets.specs.declared.Fields.{Fields}
 use Rattle.acceptance.specs.Acceptance.{answerMeaning}
-use Rattle.steps.specs.Steps.{judgedReply, noReply}
+use Rattle.configuration.specs.Configuration.{activeWord}
+use Rattle.steps.specs.Steps.{stepFrame}
+use Rattle.steps.specs.declared.Event.{Event}
+use Rattle.steps.specs.declared.Event.the-variants.{Reply, TimeUp}
+use Rattle.steps.specs.declared.Judged.{Judged}
+use Rattle.steps.proofs.Lengths.{step-length}
 use Rattle.run.specs.Run.{clockedRun, triggerNumber, triggerRules, afterAnswer}
-use Rattle.crate_pass.specs.Crate.{replyMeaning}
-use Rattle.board.specs.State.{withRun, boardFor, powerUpMeaning, powerUpAnswer, PowersUp}
+use Rattle.crate_pass.specs.Crate.{isDone, saysDone, replyMeaning, unlessRefused, frameDue, noSuchCrate, servedAnswer}
+use Rattle.crate_pass.specs.declared.Outcome.{Outcome}
+use Rattle.crate_pass.proofs.Serving.{moved-done}
+use Rattle.board.specs.State.{crateAt, withCrates, withRun, boardFor, powerUpMeaning, powerUpAnswer, PowersUp}
 use Rattle.board.specs.Commands.{Obeys, TriggersOn}
-use Rattle.board.specs.SlowControl.{frameAt, Replies}
+use Rattle.board.specs.SlowControl.{judgedAt, movedAt, replyRules, replyAnswer, boardReplied, bytesReplied, Replies}
 use Rattle.board.specs.declared.Board.{Board}
 use Rattle.board.specs.declared.PowerUp.the-variants.{Up, Refused}
 use Rattle.board.specs.declared.PowerUpResult.{PowerUpResult}
 use Rattle.board.specs.declared.CommandResult.{CommandResult}
 use Rattle.board.specs.declared.TriggerResult.{TriggerResult}
 use Rattle.board.specs.declared.ReplyResult.{ReplyResult}
-use Rattle.texts.specs.Texts.{inBytes}
+use Rattle.texts.specs.Texts.{served, inBytes, nextFrame}
 use Rattle.texts.specs.declared.Response.{Response}
 use Rattle.texts.specs.declared.Response.the-variants.{One}
-use Rattle.responses.specs.Responses.{refusalPrinted, commandPrinted, outcomePrinted, Prints, PrintsWrittenBytes}
+use Rattle.responses.specs.Responses.{refusalPrinted, commandPrinted, outcomePrinted, Prints, PrintsOutcome, PrintsWrittenBytes}
+use Rattle.responses.specs.CodeShape.{PrintsInBytes}
 use Rattle.responses.proofs.Writing.{due-response}
 use Rattle.script.specs.Forms.{taking, oneByte, anyWords}
 use Rattle.exchange.specs.Orders.{Order, powerUp, command, clockStep, trigger, reply, timeUp, otherForm}
 use Rattle.exchange.specs.Orders.{areFields, fieldsFrom, replyFrom, powerUpOrder, clockOrder, triggerOrder}
-use Rattle.exchange.specs.Exchange.{powerUpPrinted, printedAnswer, afterPowerUp, boardAfterOrder}
-use Rattle.exchange.specs.CodeShape.{Answers, AnswersInBytes}
+use Rattle.exchange.specs.Exchange.{powerUpPrinted, lentBytes, eventPrinted, printedAnswer, afterPowerUp, afterEvent, boardAfterOrder}
+use Rattle.exchange.specs.CodeShape.{eventOrder, Answers, AnswersInBytes}
 use Rattle.exchange.specs.declared.Answered.{Answered}
 use Rattle.exchange.proofs.Asking.{taken}
 
@@ -59,14 +69,17 @@ module _ (β : Board) (a : Answered) (h : Answers β otherForm a) where
   pub unserved : (t : Bool) (o : Order) → t ≡ false → Answers β (taking otherForm t o) a
   unserved t o e = answers-as β otherForm (taking otherForm t o) a (sym (ap (λ (u : Bool). taking otherForm u o) e)) h
 
-  pub no-reply : (b : List ℕ) → length b ≡ 0 → Answers β (replyFrom b) a
-  no-reply [] e = h
-  no-reply (x ∷ b) e = absurd (let k : ⊥ = omega arith in k)
+  -- whatever the lent bytes then hold
+  module _ (out : List ℕ) where
+    in-bytes : (o : Order) → Answers β o a → AnswersInBytes β o a out
+    in-bytes o g = record { response = λ words. g .response out words; board = g .board }
 
-  pub no-trigger : (b out : List ℕ) (t : Bool) → t ≡ areFields b → t ≡ false → AnswersInBytes β (triggerOrder b) a out
-  no-trigger b out t q e =
-      let g = unserved (areFields b) (trigger (fieldsFrom b)) (sym q ∙ e) in
-      record { response = λ words. g .response out words; board = g .board }
+    pub unserved-in-bytes : (t : Bool) (o : Order) → t ≡ false → AnswersInBytes β (taking otherForm t o) a out
+    unserved-in-bytes t o e = in-bytes _ (unserved t o e)
+
+    pub no-reply : (b : List ℕ) → length b ≡ 0 → AnswersInBytes β (replyFrom b) a out
+    no-reply [] e = in-bytes otherForm h
+    no-reply (x ∷ b) e = absurd (let k : ⊥ = omega arith in k)
 
 -- ---- P
 
@@ -146,17 +159,66 @@ triggered β b out after s t f g et h ef n x k =
 
 -- ---- R and T
 
-module _ (β : Board) (s : Response) (r : ReplyResult) (k : Prints s (outcomePrinted (replyMeaning (r .answer)))) where
-  pub replied : (b bytes : List ℕ) → (length b ≡ 0 → ⊥) → bytes ≡ drop 1 b → Replies β (getD b 0 0) (judgedReply (frameAt β (getD b 0 0)) bytes) r
-      → Answers β (replyFrom b) (answered s (r .board))
-  unfolding printedAnswer boardAfterOrder
-  replied [] bytes n e h = absurd (n refl)
-  replied (c ∷ b) bytes n e h =
-      answers-as β (reply c bytes) (reply c b) _ (ap (reply c) e)
-      (record { response = λ x y. k x y ∙ ap outcomePrinted (h .answer); board = h .board })
+module _ (β : Board) (c : ℕ) (h : Judged) where
+  -- the frame that is then due
+  abbrev due : List ℕ
+  due = frameDue (β .block) c (movedAt β c h .state)
 
-  pub timed-up : (b : List ℕ) → length b ≡ 1 → Replies β (getD b 0 0) noReply r → Answers β (oneByte otherForm timeUp b) (answered s (r .board))
-  unfolding printedAnswer boardAfterOrder
-  timed-up b l h =
-      answers-as β (timeUp (getD b 0 0)) (oneByte otherForm timeUp b) _ (sym (taken _ _ (eq-eqb _ _ l)))
-      (record { response = λ x y. k x y ∙ ap outcomePrinted (h .answer); board = h .board })
+  module _ (out : List ℕ) (size : length out ≡ 28) where
+    -- the answer goes by how many bytes are lent, not by what they hold
+    same-answer : replyAnswer β c h out ≡ replyAnswer β c h lentBytes
+    unfolding servedAnswer
+    same-answer = ap (λ (n : ℕ). lowest (noSuchCrate c ∷ rule 12 (isDone (crateAt β c)) ∷ rule 19 (ltb n 28) ∷ []) (movedAt β c h .outcome)) size
+
+    same-board : boardReplied β c h out ≡ boardReplied β c h lentBytes
+    unfolding boardReplied
+    same-board = ap (λ (a : Answer Outcome). unlessRefused a (withCrates β (set (β .crates) c (movedAt β c h .state))) β) same-answer
+
+    -- the outcome says whether the crate is done; where it is not, the lent bytes are the frame that is due
+    next-due : (o : Outcome) → replyAnswer β c h out ≡ given o → nextFrame o (bytesReplied β c h out) ≡ due
+    unfolding servedAnswer bytesReplied frameDue
+    next-due o e =
+        let m = movedAt β c h in
+        let said : saysDone o ≡ isDone (m .state) =
+        ap saysDone (sym (given-same (replyRules β c out) (m .outcome) o e)) ∙ moved-done (β .kind) (activeWord (β .block) c) (crateAt β c) h in
+        let held = ap (λ (a : Answer Outcome). outputAfter a due out) e in
+        ap₂ (λ (t : Bool) (l : List ℕ). cond t [] l) said held
+        ∙ go (isDone (m .state)) (stepFrame (β .block) c (m .state .board) (m .state .code)) (step-length _ _ _ _)
+      where
+        go : (t : Bool) (f : List ℕ) → length f ≡ 28 → let l = cond t [] f in cond t [] (l ++ drop (length l) out) ≡ l
+        go true f n = refl
+        go false f n = ap (λ (l : List ℕ). f ++ l) (drop-of-length-le out {i = length f} (omega arith)) ∙ append-nil f
+
+    -- so the response prints the answer, and that frame
+    event-printed : (s : Response) (after : List ℕ) (a : Answer Outcome) → replyAnswer β c h out ≡ a → after ≡ bytesReplied β c h out → PrintsOutcome s a
+        → PrintsInBytes s after (outcomePrinted a due)
+    event-printed s after (given o) e q k words = k after words ∙ ap (served o) (ap (nextFrame o) q ∙ next-due o e)
+    event-printed s after (refused n p) e q k words = k after words
+
+pub handed-in : (β : Board) (c : ℕ) (event : Event) (bytes out after : List ℕ) (s : Response) (r : ReplyResult) → length out ≡ 28
+    → Replies β c (judgedAt β c event bytes) out r after → PrintsOutcome s (replyMeaning (r .answer))
+    → AnswersInBytes β (eventOrder event c bytes) (answered s (r .board)) after
+unfolding printedAnswer boardAfterOrder
+handed-in β c event bytes out after s r size x k =
+    let h = judgedAt β c event bytes in
+    go event
+    (λ words. event-printed β c h out size s after _ refl (x .bytes) (rw (x .answer) at k) words
+    ∙ ap (λ (a : Answer Outcome). outcomePrinted a (due β c h)) (same-answer β c h out size))
+    (x .board ∙ same-board β c h out size)
+  where
+    go : (v : Event) → PrintsInBytes s after (eventPrinted β c v bytes) → r .board ≡ afterEvent β c v bytes
+        → AnswersInBytes β (eventOrder v c bytes) (answered s (r .board)) after
+    go Reply p q = record { response = p; board = q }
+    go TimeUp p q = record { response = p; board = q }
+
+module _ (β : Board) (b after : List ℕ) (a : Answered) where
+  pub replied : (bytes : List ℕ) → (length b ≡ 0 → ⊥) → bytes ≡ drop 1 b → AnswersInBytes β (reply (getD b 0 0) bytes) a after
+      → AnswersInBytes β (replyFrom b) a after
+  replied bytes n e h = subst (λ (o : Order). AnswersInBytes β o a after) (ap (reply (getD b 0 0)) e ∙ go b n) h
+    where
+      go : (l : List ℕ) → (length l ≡ 0 → ⊥) → reply (getD l 0 0) (drop 1 l) ≡ replyFrom l
+      go [] n = absurd (n refl)
+      go (x ∷ l) n = refl
+
+  pub timed-up : length b ≡ 1 → AnswersInBytes β (timeUp (getD b 0 0)) a after → AnswersInBytes β (oneByte otherForm timeUp b) a after
+  timed-up l h = subst (λ (o : Order). AnswersInBytes β o a after) (sym (taken _ _ (eq-eqb _ _ l))) h

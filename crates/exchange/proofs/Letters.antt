@@ -13,7 +13,7 @@ use Rattle.texts.specs.Texts.{Printed, question, responseMeaning}
 use Rattle.texts.specs.declared.Response.{Response}
 use Rattle.script.specs.Forms.{oneByte, noByte, anyWords, Row, found}
 use Rattle.far_end.specs.FarEnd.{readPacket, commandFrom, blockFrom}
-use Rattle.exchange.specs.Orders.{Order, otherForm, command, timeUp, outstanding, framesSent, static, ftuList, failure, dynamic, farEnd}
+use Rattle.exchange.specs.Orders.{Order, otherForm, command, timeUp, firstFrame, framesSent, static, ftuList, failure, dynamic, farEnd}
 use Rattle.exchange.specs.Orders.{replyFrom, powerUpOrder, clockOrder, triggerOrder, letters, orderOf}
 use Rattle.exchange.specs.Exchange.{printedAnswer, boardAfterOrder}
 use Rattle.exchange.specs.CodeShape.{boardOrder, askedBy, Answers, AnswersInBytes, AnswersBoth}
@@ -21,7 +21,7 @@ use Rattle.exchange.specs.declared.Answered.{Answered}
 
 module _ (letter : ℕ) (b : List ℕ) where
   -- ---- letters that only ask
-  pub asks-F : letter ≡ 70 → oneByte otherForm outstanding b ≡ askedBy letter b
+  pub asks-F : letter ≡ 70 → oneByte otherForm firstFrame b ≡ askedBy letter b
   unfolding askedBy
   asks-F e = rw e
 
@@ -103,7 +103,7 @@ module _ (letter : ℕ) (b : List ℕ) where
         let one = eqb (length b) 1 in
         let none = eqb (length b) 0 in
         let even = eqb (length b % 2) 0 in
-        let f = keeps one (outstanding (getD b 0 0)) otherForm refl refl in
+        let f = keeps one (firstFrame (getD b 0 0)) otherForm refl refl in
         let n = keeps one (framesSent (getD b 0 0)) otherForm refl refl in
         let s = keeps none static otherForm refl refl in
         let l = keeps none ftuList otherForm refl refl in

@@ -4,11 +4,13 @@ use mathlib.Core.Path.{_≡_}
 use mathlib.Core.List.{List}
 use lib.ListN.{length, take, drop}
 use Rattle.script.specs.Forms.{found}
+use Rattle.steps.specs.declared.Event.{Event}
+use Rattle.steps.specs.declared.Event.the-variants.{Reply, TimeUp}
 use Rattle.board.specs.declared.Board.{Board}
 use Rattle.texts.specs.Texts.{responseMeaning, textOf, inFront}
 use Rattle.responses.specs.Responses.{Prints}
 use Rattle.responses.specs.CodeShape.{PrintsInBytes}
-use Rattle.exchange.specs.Orders.{Order, otherForm, letters}
+use Rattle.exchange.specs.Orders.{Order, reply, timeUp, otherForm, letters}
 use Rattle.exchange.specs.Exchange.{printedAnswer, boardAfterOrder}
 use Rattle.exchange.specs.declared.Answered.{Answered}
 use Rattle.exchange.specs.declared.ServedLine.{ServedLine}
@@ -19,6 +21,11 @@ boardOrder letter b = found otherForm (take 12 letters) letter b
 
 unfoldable pub askedBy : ℕ → List ℕ → Order
 askedBy letter b = found otherForm (drop 6 (take 12 letters)) letter b
+
+-- the order of a reply or a time-up
+abbrev pub eventOrder : Event → ℕ → List ℕ → Order
+eventOrder Reply c bytes = reply c bytes
+eventOrder TimeUp c bytes = timeUp c
 
 -- an order was answered a
 pub record Answers (β : Board) (o : Order) (a : Answered) : Type 0 where

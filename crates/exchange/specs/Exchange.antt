@@ -2,24 +2,26 @@
 use Prim.Native.Nat.{ℕ}
 use mathlib.Core.Path.{_≡_}
 use mathlib.Core.List.{List, [], _∷_, _++_}
-use lib.ListN.{length}
+use lib.ListN.{length, replicate}
 use Rattle.refusals.specs.Tables.{Answer, given, refused, Rule, lowest}
 use Rattle.packets.specs.Packets.{packetBytes}
 use Rattle.blocks.specs.Blocks.{headerWords, staticRules, measurementRules, wrongId}
 use Rattle.ftu_list.specs.List.{listBody}
 use Rattle.command_reader.specs.Reading.{commandAnswer, usedOf}
-use Rattle.steps.specs.Steps.{noReply}
+use Rattle.steps.specs.declared.Event.{Event}
+use Rattle.steps.specs.declared.Event.the-variants.{Reply, TimeUp}
+use Rattle.crate_pass.specs.Crate.{frameDue}
 use Rattle.run.specs.Run.{triggerNumber, triggerRules, afterAnswer}
 use Rattle.board.specs.State.{freshBoard, withRun, powerUpAnswer}
 use Rattle.board.specs.Commands.{boardAnswer, boardAfter, afterClockStep}
-use Rattle.board.specs.SlowControl.{fetchRules, frameAt, replyAnswer, boardReplied, sentAnswer, judgedAt}
+use Rattle.board.specs.SlowControl.{frameAt, judgedAt, movedAt, replyAnswer, boardReplied, fetchRules, sentAnswer}
 use Rattle.board.specs.SentOut.{headerOf, dynamicBodyOf, listRules, listOf, failureRules, failureBodyOf}
 use Rattle.board.specs.declared.Board.{Board}
 use Rattle.script.specs.Script.{Line, passedOver, order, malformed}
 use Rattle.texts.specs.Texts.{Printed, question, numbers, inBytes, inWords, textOf, inFront}
 use Rattle.responses.specs.Responses.{refusalPrinted, commandPrinted, outcomePrinted, duePrinted}
 use Rattle.far_end.specs.FarEnd.{farEndPrinted}
-use Rattle.exchange.specs.Orders.{Order, powerUp, command, clockStep, trigger, reply, timeUp, outstanding, framesSent}
+use Rattle.exchange.specs.Orders.{Order, powerUp, command, clockStep, trigger, reply, timeUp, firstFrame, framesSent}
 use Rattle.exchange.specs.Orders.{static, ftuList, failure, dynamic, farEnd, otherForm, orderOf}
 use Rattle.exchange.specs.declared.ServedLine.{ServedLine}
 
@@ -37,14 +39,24 @@ sentPrinted (refused n p) = refusalPrinted n p
 abbrev pub blockPrinted : Board → List Rule → List ℕ → Printed
 blockPrinted β own body = duePrinted inWords (lowest (own ++ (wrongId (headerOf β) ∷ [])) (headerWords (headerOf β) ++ body))
 
+-- `R` and `T`: "with 28 bytes lent for the next frame", which hold zeros
+abbrev pub lentBytes : List ℕ
+lentBytes = replicate 28 0
+
+-- a reply or a time-up on crate c: the outcome, and the frame that is then due there
+abbrev pub eventPrinted : Board → ℕ → Event → List ℕ → Printed
+eventPrinted β c event bytes =
+    let h = judgedAt β c event bytes in
+    outcomePrinted (replyAnswer β c h lentBytes) (frameDue (β .block) c (movedAt β c h .state))
+
 unfoldable pub printedAnswer : Board → Order → Printed
 printedAnswer β (powerUp id firmware) = powerUpPrinted (powerUpAnswer id)
 printedAnswer β (command w) = commandPrinted (usedOf (commandAnswer w)) (boardAnswer β w)
 printedAnswer β (clockStep ticks) = numbers (0 ∷ [])
 printedAnswer β (trigger f) = duePrinted inBytes (lowest (triggerRules (β .run) f) (packetBytes (triggerNumber (β .run)) f))
-printedAnswer β (reply c bytes) = outcomePrinted (replyAnswer β c (judgedAt β c bytes))
-printedAnswer β (timeUp c) = outcomePrinted (replyAnswer β c noReply)
-printedAnswer β (outstanding c) = duePrinted inBytes (lowest (fetchRules β c) (frameAt β c))
+printedAnswer β (reply c bytes) = eventPrinted β c Reply bytes
+printedAnswer β (timeUp c) = eventPrinted β c TimeUp []
+printedAnswer β (firstFrame c) = duePrinted inBytes (lowest (fetchRules β c) (frameAt β c))
 printedAnswer β (framesSent c) = sentPrinted (sentAnswer β c)
 printedAnswer β static = blockPrinted β (staticRules (β .block)) (β .block)
 printedAnswer β ftuList = blockPrinted β (listRules β) (listBody (listOf β))
@@ -60,14 +72,17 @@ abbrev pub afterPowerUp : Board → ℕ → ℕ → Answer Unit → Board
 afterPowerUp β id firmware (given t) = freshBoard id firmware
 afterPowerUp β id firmware (refused n p) = β
 
+abbrev pub afterEvent : Board → ℕ → Event → List ℕ → Board
+afterEvent β c event bytes = boardReplied β c (judgedAt β c event bytes) lentBytes
+
 unfoldable pub boardAfterOrder : Board → Order → Board
 boardAfterOrder β (powerUp id firmware) = afterPowerUp β id firmware (powerUpAnswer id)
 boardAfterOrder β (command w) = boardAfter β w
 boardAfterOrder β (clockStep ticks) = afterClockStep β ticks
 boardAfterOrder β (trigger f) = withRun β (afterAnswer (β .run) (lowest (triggerRules (β .run) f) 7))
-boardAfterOrder β (reply c bytes) = boardReplied β c (judgedAt β c bytes)
-boardAfterOrder β (timeUp c) = boardReplied β c noReply
-boardAfterOrder β (outstanding c) = β
+boardAfterOrder β (reply c bytes) = afterEvent β c Reply bytes
+boardAfterOrder β (timeUp c) = afterEvent β c TimeUp []
+boardAfterOrder β (firstFrame c) = β
 boardAfterOrder β (framesSent c) = β
 boardAfterOrder β static = β
 boardAfterOrder β ftuList = β

@@ -18,7 +18,7 @@ pub data Order : Type 0 where
   trigger : Fields → Order
   reply : ℕ → List ℕ → Order
   timeUp : ℕ → Order
-  outstanding : ℕ → Order
+  firstFrame : ℕ → Order
   framesSent : ℕ → Order
   static : Order
   ftuList : Order
@@ -81,7 +81,7 @@ letters =
     ∷ row "G" triggerOrder
     ∷ row "R" replyFrom
     ∷ row "T" (oneByte otherForm timeUp)
-    ∷ row "F" (oneByte otherForm outstanding)
+    ∷ row "F" (oneByte otherForm firstFrame)
     ∷ row "N" (oneByte otherForm framesSent)
     ∷ row "S" (noByte otherForm static)
     ∷ row "L" (noByte otherForm ftuList)

@@ -8,10 +8,10 @@ ghost use Rattle.texts.specs.Texts.{responseMeaning};
 ghost use Rattle.responses.specs.Responses.{Prints};
 ghost use Rattle.responses.specs.CodeShape.{PrintsInBytes, PrintsInWords};
 ghost use Rattle.script.specs.Forms.{oneByte, noByte, anyWords};
-ghost use Rattle.exchange.specs.Orders.{command, timeUp, outstanding, framesSent, static, ftuList, failure, dynamic, otherForm};
+ghost use Rattle.exchange.specs.Orders.{command, timeUp, firstFrame, framesSent, static, ftuList, failure, dynamic, otherForm};
 ghost use Rattle.exchange.specs.Orders.{areFlags, areFields, fieldsFrom, powerUpOrder, clockOrder, triggerOrder, replyFrom};
 ghost use Rattle.exchange.specs.Exchange.{printedAnswer, ServesLine};
-ghost use Rattle.exchange.specs.CodeShape.{boardOrder, askedBy, Answers, AnswersInBytes, AnswersBoth, ServesOrder};
+ghost use Rattle.exchange.specs.CodeShape.{boardOrder, askedBy, eventOrder, Answers, AnswersInBytes, AnswersBoth, ServesOrder};
 use board::Board;
 use board::PowerUp;
 use board::power_up;
@@ -29,6 +29,7 @@ use responses::refusal_response;
 use responses::words_response;
 use script::Form;
 use script::Reading;
+use steps::Event;
 use texts::Response;
 use texts::write_response;
 use words::words_from_bytes;
@@ -175,48 +176,49 @@ fn trigger_order(board: Board, bytes: &[u8], out: &mut [u8; 28]) -> Answered
     other_form(board)
 }
 
+// A reply or a time-up on a crate; the next frame goes into the lent bytes.
+fn event_order(board: Board, index: u8, event: Event, bytes: &[u8], out: &mut [u8; 28]) -> Answered
+    ensures { λ r. ⌜ AnswersInBytes board (eventOrder event index (now (bytes .entry))) r (now (out .exit)) ⌝ }
+{
+    let replied = board.hand_in(index, event, bytes, out);
+    let answer = replied.answer;
+    let next = replied.board;
+    Answered {
+        response: outcome_response(answer),
+        board: next,
+    }
+}
+
 // R: a reply on a crate.
-fn reply_order(board: Board, bytes: &[u8]) -> Answered
-    ensures { λ r. ⌜ Answers board (replyFrom (now (bytes .entry))) r ⌝ }
+fn reply_order(board: Board, bytes: &[u8], out: &mut [u8; 28]) -> Answered
+    ensures { λ r. ⌜ AnswersInBytes board (replyFrom (now (bytes .entry))) r (now (out .exit)) ⌝ }
 {
     if bytes.len() == 0 {
         return other_form(board);
     }
-    let replied = board.reply(bytes[0], &bytes[1..]);
-    let answer = replied.answer;
-    let next = replied.board;
-    Answered {
-        response: outcome_response(answer),
-        board: next,
-    }
+    event_order(board, bytes[0], Event::Reply, &bytes[1..], out)
 }
 
-// T: a time-up on a crate.
-fn time_up_order(board: Board, bytes: &[u8]) -> Answered
-    ensures { λ r. ⌜ Answers board (oneByte otherForm timeUp (now (bytes .entry))) r ⌝ }
+// T: a time-up on a crate, which has no bytes.
+fn time_up_order(board: Board, bytes: &[u8], out: &mut [u8; 28]) -> Answered
+    ensures { λ r. ⌜ AnswersInBytes board (oneByte otherForm timeUp (now (bytes .entry))) r (now (out .exit)) ⌝ }
 {
     if bytes.len() != 1 {
         return other_form(board);
     }
-    let replied = board.time_up(bytes[0]);
-    let answer = replied.answer;
-    let next = replied.board;
-    Answered {
-        response: outcome_response(answer),
-        board: next,
-    }
+    event_order(board, bytes[0], Event::TimeUp, &bytes[1..], out)
 }
 
 // ---- orders that only ask
 
-// F: the outstanding frame of a crate.
+// F: the first frame of the pass on a crate.
 fn frame_order(board: Board, bytes: &[u8], out: &mut [u8; 28]) -> Response
-    ensures { λ r. ⌜ PrintsInBytes r (now (out .exit)) (printedAnswer board (oneByte otherForm outstanding (now (bytes .entry)))) ⌝ }
+    ensures { λ r. ⌜ PrintsInBytes r (now (out .exit)) (printedAnswer board (oneByte otherForm firstFrame (now (bytes .entry)))) ⌝ }
 {
     if bytes.len() != 1 {
         return Response::Question;
     }
-    bytes_response(board.outstanding_frame(bytes[0], out))
+    bytes_response(board.first_frame(bytes[0], out))
 }
 
 // N: the number of frames sent on a crate.
@@ -314,8 +316,8 @@ fn serve_order(
         b'C' => command_order(board, bytes),
         b'K' => clock_order(board, bytes),
         b'G' => trigger_order(board, bytes, out),
-        b'R' => reply_order(board, bytes),
-        b'T' => time_up_order(board, bytes),
+        b'R' => reply_order(board, bytes, out),
+        b'T' => time_up_order(board, bytes, out),
         _ => Answered {
             response: ask(board, letter, bytes, out, words),
             board,

@@ -17,24 +17,30 @@ use Rattle.block_reader.specs.declared.Kind.the-variants.{Static}
 use Rattle.packet_reader.specs.Reading.{packetAnswer}
 use Rattle.round_trips.specs.Blocks.{ReadsBack}
 use Rattle.command_reader.specs.Reading.{commandAnswer}
+use Rattle.steps.specs.declared.Event.{Event}
+use Rattle.steps.specs.declared.Event.the-variants.{Reply, TimeUp}
 use Rattle.run.specs.Run.{clockedRun, triggerNumber, triggerRules, afterTrigger}
 use Rattle.run.specs.declared.Run.{Run}
 use Rattle.board.specs.State.{freshBoard}
 use Rattle.board.specs.declared.Board.{Board}
 use Rattle.call_refusals.specs.CallRefusals.{lowerOf, noRoom, passRefusal, packetsRefusal, triggersRefusal}
 use Rattle.command_series.specs.Series.{afterCommands, acceptedOf, firstRefusal}
-use Rattle.reply_series.specs.Series.{goodOf, servedOf}
+use Rattle.reply_series.specs.Series.{seriesOn}
 
 -- ---- what a call leaves. 0 stands for no refusal
 
--- what the lent output then holds: what is due, then what stood there; after a refusal, what stood there
+-- what lent memory then holds: what the call makes of it; after a refusal, what it held
 unfoldable pub holds : ℕ → List ℕ → List ℕ → List ℕ
-holds refusal due out = cond (eqb refusal 0) (due ++ drop (length due) out) out
+holds refusal made lent = cond (eqb refusal 0) made lent
 
--- a call with this refusal, to which `due` is due, returned r, and the output `out` became `after`
-pub record Gives (refusal : ℕ) (due out : List ℕ) (r : ℕ) (after : List ℕ) : Type 0 where
+-- a call with this refusal, which makes `made` of the lent memory, returned r, and the memory became `after`
+pub record Leaves (refusal : ℕ) (made lent : List ℕ) (r : ℕ) (after : List ℕ) : Type 0 where
   pub answer : r ≡ refusal
-  pub output : after ≡ holds refusal due out
+  pub output : after ≡ holds refusal made lent
+
+-- a call to which `due` is due: the lent output then holds that, then what stood there
+abbrev pub Gives : ℕ → List ℕ → List ℕ → ℕ → List ℕ → Type 0
+Gives refusal due out r after = Leaves refusal (due ++ drop (length due) out) out r after
 
 -- a call that counts: the count is the first of the lent numbers
 abbrev pub GivesCount : ℕ → ℕ → List ℕ → ℕ → List ℕ → Type 0
@@ -59,15 +65,21 @@ afterTwo w = afterCommands 2 (freshBoard 0 0) w
 
 -- ---- a pass
 
--- how many of the items get a good answer, after the first command of the words
-unfoldable pub passOf : List ℕ → List ℕ → ℕ
-passOf w items = goodOf (length items / 29) (afterOne w) items
+-- a call with this refusal, on a fresh board after the first command of the words: how many of the items count stands in the lent numbers `out`, and
+-- what the items leave in the lent bytes `frame`
+pub record CountsItems (event : Event) (refusal : ℕ) (w items frame out : List ℕ) (r : ℕ) (frame′ out′ : List ℕ) : Type 0 where
+  pub many : Gives refusal (seriesOn event (afterOne w) items frame .number ∷ []) out r out′
+  pub bytes : Leaves refusal (seriesOn event (afterOne w) items frame .lent) frame r frame′
 
-abbrev pub CountsPass : List ℕ → List ℕ → List ℕ → ℕ → List ℕ → Type 0
-CountsPass w items out r after = Gives (passRefusal (firstRefusal 1 (freshBoard 0 0) w) (length items) (length out)) (passOf w items ∷ []) out r after
+-- replies
+abbrev pub CountsPass : List ℕ → List ℕ → List ℕ → List ℕ → ℕ → List ℕ → List ℕ → Type 0
+CountsPass w items frame out r frame′ out′ =
+    CountsItems Reply (passRefusal (firstRefusal 1 (freshBoard 0 0) w) (length items) (length out)) w items frame out r frame′ out′
 
-abbrev pub CountsTimeUps : List ℕ → List ℕ → List ℕ → ℕ → List ℕ → Type 0
-CountsTimeUps w is out r after = GivesCount (firstRefusal 1 (freshBoard 0 0) w) (servedOf (afterOne w) is) out r after
+-- time-ups
+abbrev pub CountsTimeUps : List ℕ → List ℕ → List ℕ → List ℕ → ℕ → List ℕ → List ℕ → Type 0
+CountsTimeUps w crates frame out r frame′ out′ =
+    CountsItems TimeUp (lowerOf (firstRefusal 1 (freshBoard 0 0) w) (noRoom 1 (length out))) w crates frame out r frame′ out′
 
 -- ---- clock steps
 

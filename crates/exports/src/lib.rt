@@ -1,5 +1,5 @@
 // Functions for programs in C or Rust, over numbers and slices: each makes a fresh board of its own where it needs one.
-// A function that can refuse returns the number of the refusal, the lowest where several apply, and then leaves the lent output as it was;
+// A function that can refuse returns the number of the refusal, the lowest where several apply, and then leaves all lent memory as it was;
 // else it returns 0, and what is due stands in front of the lent output. A number that it counts is the first of the lent numbers.
 ghost use mathlib.Core.Path.{_≡_};
 ghost use Prim.Native.Nat.{_*_, _≤_};
@@ -29,9 +29,9 @@ use packet_reader::PacketRead;
 use packet_reader::read_packet;
 use packets::Fields;
 use refusals::Written;
-use reply_series::good_on_board;
+use reply_series::count_on_board;
 use reply_series::good_replies;
-use reply_series::served_time_ups;
+use steps::Event;
 use words::copy_words;
 
 // The CRC of bytes.
@@ -67,11 +67,11 @@ pub extern "C" fn ftm_commands(words: &[u16], count: u64, accepted: &mut [u64]) 
     0
 }
 
-// On a fresh board: obeys the first command of the words, then serves the items, 29 bytes each, a crate's number and a reply of 28
-// bytes. How many replies were good. (On the crates alone.)
+// On a fresh board: obeys the first command of the words, then hands in the items, 29 bytes each, a crate's number and a reply of 28
+// bytes; each lends `frame` for the next frame. How many replies were good. (On the crates alone.)
 #[no_mangle]
-pub extern "C" fn ftm_pass(words: &[u16], items: &[u8], good: &mut [u64]) -> u8
-    ensures { λ r. ⌜ CountsPass (now (words .entry)) (now (items .entry)) (now (good .entry)) r (now (good .exit)) ⌝ }
+pub extern "C" fn ftm_pass(words: &[u16], items: &[u8], frame: &mut [u8], good: &mut [u64]) -> u8
+    ensures { λ r. ⌜ CountsPass (now (words .entry)) (now (items .entry)) (now (frame .entry)) (now (good .entry)) r (now (frame .exit)) (now (good .exit)) ⌝ }
 {
     let done = obey_series(words, 1);
     let refusal = pass_refusal(done.refusal, items.len(), good.len());
@@ -82,14 +82,14 @@ pub extern "C" fn ftm_pass(words: &[u16], items: &[u8], good: &mut [u64]) -> u8
     let crates = board.crates;
     let block = board.block;
     let kind = board.kind;
-    good[0] = good_replies(crates, &block, kind, items);
+    good[0] = good_replies(crates, &block, kind, items, frame);
     0
 }
 
 // The same as `ftm_pass`, each item by a call on the whole board.
 #[no_mangle]
-pub extern "C" fn ftm_replies(words: &[u16], items: &[u8], good: &mut [u64]) -> u8
-    ensures { λ r. ⌜ CountsPass (now (words .entry)) (now (items .entry)) (now (good .entry)) r (now (good .exit)) ⌝ }
+pub extern "C" fn ftm_replies(words: &[u16], items: &[u8], frame: &mut [u8], good: &mut [u64]) -> u8
+    ensures { λ r. ⌜ CountsPass (now (words .entry)) (now (items .entry)) (now (frame .entry)) (now (good .entry)) r (now (frame .exit)) (now (good .exit)) ⌝ }
 {
     let done = obey_series(words, 1);
     let refusal = pass_refusal(done.refusal, items.len(), good.len());
@@ -97,14 +97,21 @@ pub extern "C" fn ftm_replies(words: &[u16], items: &[u8], good: &mut [u64]) -> 
         return refusal;
     }
     let board = done.board;
-    good[0] = good_on_board(board, items);
+    good[0] = count_on_board(board, Event::Reply, items, frame);
     0
 }
 
-// On a fresh board: obeys the first command of the words, then a time-up on each of the crates in turn. How many were served.
+// On a fresh board: obeys the first command of the words, then a time-up on each of the crates in turn, with `frame` lent to each for the
+// next frame. How many were served.
 #[no_mangle]
-pub extern "C" fn ftm_time_ups(words: &[u16], crates: &[u8], served: &mut [u64]) -> u8
-    ensures { λ r. ⌜ CountsTimeUps (now (words .entry)) (now (crates .entry)) (now (served .entry)) r (now (served .exit)) ⌝ }
+pub extern "C" fn ftm_time_ups(
+    words: &[u16],
+    crates: &[u8],
+    frame: &mut [u8],
+    served: &mut [u64],
+) -> u8
+    ensures { λ r.
+        ⌜ CountsTimeUps (now (words .entry)) (now (crates .entry)) (now (frame .entry)) (now (served .entry)) r (now (frame .exit)) (now (served .exit)) ⌝ }
 {
     let done = obey_series(words, 1);
     let refusal = lower_of(done.refusal, no_room(1, served.len()));
@@ -112,7 +119,7 @@ pub extern "C" fn ftm_time_ups(words: &[u16], crates: &[u8], served: &mut [u64])
         return refusal;
     }
     let board = done.board;
-    served[0] = served_time_ups(board, crates);
+    served[0] = count_on_board(board, Event::TimeUp, crates, frame);
     0
 }
 

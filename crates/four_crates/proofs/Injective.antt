@@ -1,27 +1,27 @@
--- Two different answers on the outstanding frame, on the number of frames sent, and on a failure record are never read as the same.
+-- Two different answers on the first frame, on the number of frames sent, and on a failure record are never read as the same.
 -- Assumes nothing.
 use mathlib.Core.Path.{_≡_, refl, ap}
 use Rattle.refusals.proofs.Injective.{Injective, valueOf, refusal-back, inverse-injective}
 use Prim.Native.Nat.{ℕ}
-use Rattle.four_crates.specs.FourCrates.{outstandingMeaning, sentMeaning, recordMeaning}
-use Rattle.four_crates.specs.declared.Outstanding.{Outstanding}
-use Rattle.four_crates.specs.declared.Outstanding.the-variants.{Step}
+use Rattle.four_crates.specs.FourCrates.{firstMeaning, sentMeaning, recordMeaning}
+use Rattle.four_crates.specs.declared.FirstStep.{FirstStep}
+use Rattle.four_crates.specs.declared.FirstStep.the-variants.{Step}
 use Rattle.four_crates.specs.declared.FramesSent.{FramesSent}
 use Rattle.four_crates.specs.declared.FramesSent.the-variants.{Number}
 use Rattle.four_crates.specs.declared.RecordFound.{RecordFound}
 use Rattle.four_crates.specs.declared.RecordFound.the-variants.{Record}
 
 -- the answer that names a board and a code
-step : ℕ × ℕ → Outstanding
+step : ℕ × ℕ → FirstStep
 step s = Step (s .0) (s .1)
 
-pub outstanding-injective : Injective outstandingMeaning
+pub first-injective : Injective firstMeaning
 unfolding step
-outstanding-injective = inverse-injective outstandingMeaning step Outstanding.Refused go
+first-injective = inverse-injective firstMeaning step FirstStep.Refused go
   where
-    go : (x : Outstanding) → valueOf step Outstanding.Refused (outstandingMeaning x) ≡ x
+    go : (x : FirstStep) → valueOf step FirstStep.Refused (firstMeaning x) ≡ x
     go (Step b code) = refl
-    go (Outstanding.Refused r) = ap Outstanding.Refused (refusal-back r)
+    go (FirstStep.Refused r) = ap FirstStep.Refused (refusal-back r)
 
 pub sent-injective : Injective sentMeaning
 sent-injective = inverse-injective sentMeaning Number FramesSent.Refused go

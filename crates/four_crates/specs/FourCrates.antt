@@ -6,13 +6,11 @@ use lib.Dec.{eqb, leb, ltb}
 use lib.ListN.{length, getD}
 use Rattle.refusals.specs.Tables.{Answer, given, Rule, rule, lowest, refusalMeaning}
 use Rattle.ftu_list.specs.declared.Entry.{Entry}
-use Rattle.steps.specs.declared.Judged.{Judged}
-use Rattle.crate_pass.specs.Crate.{silent, entriesIn, isDone, begunCrate, Moved, moved, crateRules}
+use Rattle.crate_pass.specs.Crate.{silent, entriesIn, isDone, begunCrate, noSuchCrate, firstRule}
 use Rattle.crate_pass.specs.declared.PassKind.{PassKind}
-use Rattle.crate_pass.specs.declared.Outcome.{Outcome}
 use Rattle.crate_pass.specs.declared.Crate.{Crate}
-use Rattle.four_crates.specs.declared.Outstanding.{Outstanding}
-use Rattle.four_crates.specs.declared.Outstanding.the-variants.{Step}
+use Rattle.four_crates.specs.declared.FirstStep.{FirstStep}
+use Rattle.four_crates.specs.declared.FirstStep.the-variants.{Step}
 use Rattle.four_crates.specs.declared.FramesSent.{FramesSent}
 use Rattle.four_crates.specs.declared.FramesSent.the-variants.{Number}
 use Rattle.four_crates.specs.declared.RecordFound.{RecordFound}
@@ -39,23 +37,19 @@ begunAll kind words cs =
     ∷ begunCrate kind (getD words 3 0) (crateOf cs 3)
     ∷ []
 
--- ---- replies and time-ups, the outstanding frame, and the number of frames
+-- ---- the first frame, and the number of frames
 
--- "11: crate above 3"
-abbrev pub noSuchCrate : ℕ → Rule
-noSuchCrate i = rule 11 (ltb 3 i)
+-- the first frame's fetch: 11, then 12 (19 comes with the bytes lent for it)
+abbrev pub firstRules : List Crate → ℕ → List Rule
+firstRules cs i = noSuchCrate i ∷ firstRule (crateOf cs i) ∷ []
 
--- 11, then "12: nothing outstanding there"
-abbrev pub servedRules : List Crate → ℕ → List Rule
-servedRules cs i = noSuchCrate i ∷ crateRules (crateOf cs i)
+-- the board and the code of the first frame
+abbrev pub firstMeaning : FirstStep → Answer (ℕ × ℕ)
+firstMeaning (Step b code) = given (b, code)
+firstMeaning (FirstStep.Refused r) = refusalMeaning r
 
--- the board and the code of the outstanding frame
-abbrev pub outstandingMeaning : Outstanding → Answer (ℕ × ℕ)
-outstandingMeaning (Step b code) = given (b, code)
-outstandingMeaning (Outstanding.Refused r) = refusalMeaning r
-
-unfoldable pub outstandingAnswer : List Crate → ℕ → Answer (ℕ × ℕ)
-outstandingAnswer cs i = lowest (servedRules cs i) (crateOf cs i .board, crateOf cs i .code)
+unfoldable pub firstAnswer : List Crate → ℕ → Answer (ℕ × ℕ)
+firstAnswer cs i = lowest (firstRules cs i) (crateOf cs i .board, crateOf cs i .code)
 
 -- "The number of frames sent on a crate"
 abbrev pub sentMeaning : FramesSent → Answer ℕ
@@ -64,13 +58,6 @@ sentMeaning (FramesSent.Refused r) = refusalMeaning r
 
 unfoldable pub sentOn : List Crate → ℕ → Answer ℕ
 sentOn cs i = lowest (noSuchCrate i ∷ []) (crateOf cs i .sent)
-
--- a reply or a time-up on crate i, once it is judged, moves that crate
-abbrev pub movedOn : List Crate → ℕ → PassKind → ℕ → Judged → Moved
-movedOn cs i kind w h = moved kind w (crateOf cs i) h
-
-unfoldable pub servedAnswer : List Crate → ℕ → PassKind → ℕ → Judged → Answer Outcome
-servedAnswer cs i kind w h = lowest (servedRules cs i) (movedOn cs i kind w h .outcome)
 
 -- ---- the FTU list: "Board b (0 to 9) of crate c is k = 10c + b"
 

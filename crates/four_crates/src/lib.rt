@@ -1,9 +1,9 @@
-// The four crates: a pass begun on all of them, whether one is under way, the outstanding frames, the entries of the FTU list, and the failure records.
+// The four crates: a pass begun on all of them, whether one is under way, the first frames, the entries of the FTU list, and the failure records.
 ghost use mathlib.Core.Path.{_≡_};
 ghost use Prim.Native.Nat.{_<_};
 ghost use lib.ListN.{getD};
 ghost use Rattle.crate_pass.specs.Crate.{entriesIn, silent};
-ghost use Rattle.four_crates.specs.FourCrates.{inPass, begunAll, outstandingMeaning, outstandingAnswer};
+ghost use Rattle.four_crates.specs.FourCrates.{inPass, begunAll, firstMeaning, firstAnswer};
 ghost use Rattle.four_crates.specs.FourCrates.{sentMeaning, sentOn, entriesOf, failedAt, recordMeaning, recordAnswer};
 use crate_pass::Crate;
 use crate_pass::PassKind;
@@ -16,8 +16,8 @@ pub struct Failure {
     pub code: u8,
 }
 
-// The board and the code of the frame outstanding on a crate.
-pub enum Outstanding {
+// The board and the code of a crate's first frame in a pass.
+pub enum FirstStep {
     Step(u8, u8),
     Refused(Refusal),
 }
@@ -70,18 +70,21 @@ pub fn begin_all(crates: [Crate; 4], kind: PassKind, words: [u16; 4]) -> [Crate;
     ]
 }
 
-// The frame outstanding on a crate.
-pub fn outstanding_on(crates: [Crate; 4], index: u8) -> Outstanding
-    ensures { λ r. ⌜ outstandingMeaning r ≡ outstandingAnswer crates index ⌝ }
+// The first frame of the pass on a crate, until a reply or a time-up on it is counted: the number of frames tells.
+pub fn first_on(crates: [Crate; 4], index: u8) -> FirstStep
+    ensures { λ r. ⌜ firstMeaning r ≡ firstAnswer crates index ⌝ }
 {
     if 3 < index {
-        return Outstanding::Refused(Refusal::NoSuchCrate);
+        return FirstStep::Refused(Refusal::NoSuchCrate);
     }
     let own = crates[index as usize];
     if own.is_done() {
-        return Outstanding::Refused(Refusal::NothingOutstanding);
+        return FirstStep::Refused(Refusal::NothingOutstanding);
     }
-    Outstanding::Step(own.board, own.code)
+    if 1 < own.sent {
+        return FirstStep::Refused(Refusal::NothingOutstanding);
+    }
+    FirstStep::Step(own.board, own.code)
 }
 
 // The number of frames sent on a crate.

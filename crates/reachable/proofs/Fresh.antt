@@ -18,7 +18,7 @@ use Rattle.board.specs.State.{withRun, statusOf}
 use Rattle.board.specs.Commands.{boardAnswer, written, pinged, afterCommand, boardAfter}
 use Rattle.board.specs.SentOut.{headerOf}
 use Rattle.board.specs.declared.Board.{Board}
-use Rattle.reachable.specs.Calls.{Call, command, clockStep, trigger, reply, timeUp, afterCall, afterAll}
+use Rattle.reachable.specs.Calls.{Call, command, clockStep, trigger, handIn, afterCall, afterAll}
 use Rattle.reachable.specs.Calls.{startOrReset, accepted, noneGets, noWrite, noStartOrReset}
 use Rattle.reachable.specs.Fresh.{StaticReadsBack, NeedsWrite, NeedsNoWrite}
 use Rattle.reachable.proofs.OneCall.{false≢true, Free, kept-by-calls, replied-run}
@@ -59,8 +59,7 @@ unfolding afterCall withRun clockedRun
 call-fresh b β (command words) free f = command-fresh b β (blockOf words) (boardAnswer β words) free f
 call-fresh b β (clockStep ticks) free f = f
 call-fresh b β (trigger fields out) free f = trigger-fresh (β .run) (triggerAnswer (β .run) fields out) ∙ f
-call-fresh b β (reply c bytes) free f = ap (λ (r : Run). r .fresh) (replied-run β c _) ∙ f
-call-fresh b β (timeUp c) free f = ap (λ (r : Run). r .fresh) (replied-run β c _) ∙ f
+call-fresh b β (handIn c event out) free f = ap (λ (r : Run). r .fresh) (replied-run β c _ out) ∙ f
 
 calls-fresh : (b : Bool) (β : Board) (xs : List Call) → noneGets (accepted (changes b)) β xs ≡ true → β .run .fresh ≡ b → afterAll β xs .run .fresh ≡ b
 calls-fresh b β xs e f = kept-by-calls (accepted (changes b)) (λ (γ : Board). γ .run .fresh ≡ b) (call-fresh b) β xs e f

@@ -18,8 +18,9 @@ use Rattle.four_crates.specs.FourCrates.{noCrate, inPass}
 use Rattle.board.specs.State.{crateAt, freshBoard}
 use Rattle.board.specs.declared.Board.{Board}
 use Rattle.any_order.specs.Steps.{steps}
-use Rattle.any_order.specs.AnyOrder.{wordOf, mostFrames}
+use Rattle.any_order.specs.AnyOrder.{wordOf, mostFrames, stepOf}
 use Rattle.any_order.proofs.Frames.{bound-sent, most-frames}
+use Rattle.any_order.proofs.Sent.{step-here}
 use Rattle.any_order.proofs.Runs.{Runs}
 use Rattle.any_order.proofs.Follows.{view}
 use Rattle.reachable.specs.Reachable.{Reachable}
@@ -35,6 +36,9 @@ holds-reachable β h = h .reaches
 
 pub runs-number : (kind : PassKind) (w : ℕ) (k : Crate) → Runs kind w k → k .sent ≤ mostFrames kind w
 runs-number kind w k r = omega (arith, bound-sent (length (steps kind w)) (k .sent) (view kind w k) (r .bound), most-frames kind w)
+
+pub runs-first : (kind : PassKind) (w : ℕ) (k : Crate) → Runs kind w k → k .board < 10 → 1 ≤ k .sent
+runs-first kind w k r b = let one : length (stepOf k) ≡ 1 = ap length (step-here k b) in omega (arith, r .one)
 
 -- ---- power-up
 
@@ -63,6 +67,8 @@ holds-power-up id firmware i f =
         active = record { four = refl; within = λ c. rw (zeros 4 c) (omega arith) };
         four = refl;
         number = λ c h. rw (crate-up c h) zero-le;
+        first = λ c h b. absurd (let e : 10 ≡ getD (replicate 4 crateAtPowerUp) c noCrate .board = ap (λ (k : Crate). k .board) (sym (crate-up c h)) in
+            let z : ⊥ = omega arith in z);
         crates = λ c h. subst (CrateInvariant Reprogramming) (sym (crate-up c h)) sound-up;
         apart = refl;
       };

@@ -17,7 +17,7 @@ use Rattle.board.specs.State.{withRun, freshBoard}
 use Rattle.board.specs.Commands.{boardAnswer, pinged, afterCommand, boardAfter}
 use Rattle.board.specs.declared.Board.{Board}
 use Rattle.board.specs.SentOut.{headerOf, SendsStatic}
-use Rattle.reachable.specs.Calls.{Call, command, clockStep, trigger, reply, timeUp, afterCall, afterAll, isWrite, noWrite}
+use Rattle.reachable.specs.Calls.{Call, command, clockStep, trigger, handIn, afterCall, afterAll, isWrite, noWrite}
 use Rattle.reachable.specs.Reachable.{Reachable}
 use Rattle.reachable.proofs.Holding.{holds-reachable, holds-power-up}
 use Rattle.reachable.proofs.States.{holds-command, holds-all}
@@ -40,8 +40,7 @@ unfolding afterCall withRun
 call-keeps β (command words) free = command-keeps β (blockOf words) (boardAnswer β words) free
 call-keeps β (clockStep ticks) free = refl
 call-keeps β (trigger fields out) free = refl
-call-keeps β (reply c bytes) free = replied-block β c _
-call-keeps β (timeUp c) free = replied-block β c _
+call-keeps β (handIn c event out) free = replied-block β c _ out
 
 pub calls-keep : (β : Board) (xs : List Call) → noWrite β xs ≡ true → afterAll β xs .block ≡ β .block
 calls-keep β xs e = kept-by-calls isWrite (λ (γ : Board). γ .block ≡ β .block) (λ γ x free k. call-keeps γ x free ∙ k) β xs e refl

@@ -12,3 +12,4 @@ pub mod RunNumbers
 pub mod PassStays
 pub mod ListStays
 pub mod Fresh
+pub mod FirstFrame

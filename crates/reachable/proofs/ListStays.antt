@@ -22,6 +22,7 @@ use Rattle.crate_pass.specs.Crate.{asEntries, entriesIn, isDone, begunCrate}
 use Rattle.crate_pass.specs.Invariant.{IsCode}
 use Rattle.crate_pass.specs.declared.PassKind.the-variants.{Reprogramming}
 use Rattle.crate_pass.specs.declared.Crate.{Crate}
+use Rattle.steps.specs.declared.Judged.{Judged}
 use Rattle.crate_pass.proofs.Entries.{entries-stay}
 use Rattle.four_crates.specs.FourCrates.{begunAll, entriesOf}
 use Rattle.four_crates.proofs.Entries.{same-list}
@@ -33,12 +34,12 @@ use Rattle.board.specs.SentOut.{headerOf, listOf}
 use Rattle.board.specs.declared.Board.{Board}
 use Rattle.board.proofs.Serving.{board-high, board-low}
 use Rattle.any_order.specs.Steps.{Event}
-use Rattle.any_order.specs.AnyOrder.{wordOf}
-use Rattle.reachable.specs.Calls.{Call, command, clockStep, trigger, reply, timeUp, afterCall, afterAll, isPing, noPing}
+use Rattle.any_order.specs.AnyOrder.{wordOf, judgedOn}
+use Rattle.reachable.specs.Calls.{Call, command, clockStep, trigger, handIn, afterCall, afterAll, isPing, noPing}
 use Rattle.reachable.specs.Stays.{GivesList, listAtPowerUp, NoPingUnderWay}
 use Rattle.reachable.proofs.OneCall.{false≢true, Free, kept-by-calls}
 use Rattle.reachable.proofs.Holding.{Holds, holds-power-up}
-use Rattle.reachable.proofs.OnPasses.{judgedOn, next, at-set, replied-done}
+use Rattle.reachable.proofs.OnPasses.{next, at-set, replied-done}
 use Rattle.reachable.proofs.PassStays.{replied-same}
 use Rattle.reachable.proofs.States.{holds-kept, holds-all}
 
@@ -78,33 +79,35 @@ same-crate β c k l e =
     (same-list (set (β .crates) c k) (β .crates) (λ n m. at-set (β .crates) c k l (λ i j. entriesIn j ≡ entriesIn (crateAt β i)) e n refl))
 
 -- a frame of a reprogramming pass is no ping
-same-step : (β : Board) (c : ℕ) (e : Event) → Holds β → β .kind ≡ Reprogramming → c < 4 → isDone (crateAt β c) ≡ false
-    → listOf (withCrates β (set (β .crates) c (next β c e))) ≡ listOf β
-same-step β c e h p l d =
+same-step : (β : Board) (c : ℕ) (e : Event) (lent : List ℕ) → Holds β → β .kind ≡ Reprogramming → c < 4 → isDone (crateAt β c) ≡ false
+    → listOf (withCrates β (set (β .crates) c (next β c e lent))) ≡ listOf β
+same-step β c e lent h p l d =
     let four = h .reaches .four in
     let code : IsCode Reprogramming (crateAt β c .code) = rw p at (h .reaches .crates c l .code (leb-false _ _ d)) in
-    same-crate β c (next β c e) (omega arith)
-    (entries-stay (β .kind) (wordOf (β .block) c) (crateAt β c) (judgedOn β c e) (λ q. let m = code .1 in omega arith))
+    same-crate β c (next β c e lent) (omega arith)
+    (entries-stay (β .kind) (wordOf (β .block) c) (crateAt β c) (judgedOn β c e) lent (λ q. let m = code .1 in omega arith))
 
-same-event : (β : Board) (c : ℕ) (e : Event) → Holds β → NoPingUnderWay β → Same β (boardReplied β c (judgedOn β c e))
+same-event : (β : Board) (c : ℕ) (e : Event) (lent : List ℕ) → Holds β → NoPingUnderWay β → Same β (boardReplied β c (judgedOn β c e) lent)
 unfolding withCrates
-same-event β c e h (inr d) = rw (replied-same β c (judgedOn β c e) d) (record { list = refl; still = inr d })
-same-event β c e h (inl p) = go (ltb c 4) refl (isDone (crateAt β c)) refl
+same-event β c e lent h (inr d) = rw (replied-same β c (judgedOn β c e) lent d) (record { list = refl; still = inr d })
+same-event β c e lent h (inl p) = go (ltb c 4) refl (isDone (crateAt β c)) refl
   where
-    go : (t : Bool) → ltb c 4 ≡ t → (u : Bool) → isDone (crateAt β c) ≡ u → Same β (boardReplied β c (judgedOn β c e))
-    go false q u d = rw (board-high β c (judgedOn β c e) (ltb-false c 4 q)) (record { list = refl; still = inl p })
-    go true q true d = rw (replied-done β c (judgedOn β c e) (ltb-true c 4 q) d) (record { list = refl; still = inl p })
+    said : Judged
+    said = judgedOn β c e
+
+    go : (t : Bool) → ltb c 4 ≡ t → (u : Bool) → isDone (crateAt β c) ≡ u → Same β (boardReplied β c said lent)
+    go false q u d = rw (board-high β c said lent (ltb-false c 4 q)) (record { list = refl; still = inl p })
+    go true q true d = rw (replied-done β c said lent (ltb-true c 4 q) d) (record { list = refl; still = inl p })
     go true q false d =
         let l = ltb-true c 4 q in
-        subst (Same β) (sym (board-low β c (judgedOn β c e) (omega arith))) (record { list = same-step β c e h p l d; still = inl p })
+        subst (Same β) (sym (board-low β c said lent (omega arith))) (record { list = same-step β c e lent h p l d; still = inl p })
 
 same-call : (β : Board) (x : Call) → Holds β → Free isPing β x → NoPingUnderWay β → Same β (afterCall β x)
 unfolding afterCall withRun
 same-call β (command words) h free n = same-command β (blockOf words) (boardAnswer β words) free n
 same-call β (clockStep ticks) h free n = record { list = refl; still = n }
 same-call β (trigger fields out) h free n = record { list = refl; still = n }
-same-call β (reply c bytes) h free n = same-event β c (Event.reply bytes) h n
-same-call β (timeUp c) h free n = same-event β c Event.timeUp h n
+same-call β (handIn c event out) h free n = same-event β c event out h n
 
 one-more : (β γ : Board) (x : Call) → Free isPing γ x → Holds γ × Same β γ → Holds (afterCall γ x) × Same β (afterCall γ x)
 one-more β γ x free (h, s) =

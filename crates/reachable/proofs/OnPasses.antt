@@ -20,28 +20,29 @@ use Rattle.steps.proofs.PingReply.{ping-below}
 use Rattle.run.specs.Run.{isRunning}
 use Rattle.run.specs.Invariant.{RunInvariant}
 use Rattle.run.proofs.Invariant.{sound-fresh}
-use Rattle.crate_pass.specs.Crate.{isDone, crateAfter}
+use Rattle.crate_pass.specs.Crate.{isDone, servedAnswer}
 use Rattle.crate_pass.specs.Invariant.{CrateInvariant}
 use Rattle.crate_pass.specs.declared.PassKind.{PassKind}
 use Rattle.crate_pass.specs.declared.PassKind.the-variants.{Reprogramming}
 use Rattle.crate_pass.specs.declared.Crate.{Crate}
 use Rattle.crate_pass.proofs.Invariant.{sound-begun, sound-after}
-use Rattle.four_crates.specs.FourCrates.{noCrate, crateOf, inPass, begunAll, servedAnswer}
+use Rattle.crate_pass.proofs.Answered.{crateAfter}
+use Rattle.four_crates.specs.FourCrates.{noCrate, crateOf, inPass, begunAll}
 use Rattle.board.specs.State.{crateAt, activeWords, withCrates}
 use Rattle.command_reader.specs.Reading.{blockOf}
 use Rattle.board.specs.Commands.{boardAnswer, written, pinged, afterCommand}
 use Rattle.board.specs.SlowControl.{frameAt, boardReplied}
 use Rattle.board.specs.declared.Board.{Board}
-use Rattle.any_order.specs.Steps.{Event, judged}
-use Rattle.any_order.specs.AnyOrder.{write, ping, wordOf, mostFrames}
+use Rattle.any_order.specs.Steps.{Event, Request}
+use Rattle.any_order.specs.AnyOrder.{write, ping, wordOf, judgedOn, mostFrames}
 use Rattle.any_order.proofs.Begun.{Begun, begun-after}
 use Rattle.board.proofs.Serving.{board-low, board-high}
-use Rattle.any_order.proofs.Served.{crateStep}
+use Rattle.any_order.proofs.Served.{crateNext, crateStep}
 use Rattle.any_order.proofs.Runs.{Runs, step-runs}
 use Rattle.reachable.specs.Reachable.{FlagsInvariant}
 use Rattle.reachable.proofs.Accepted.{block-length, block-within}
 use Rattle.reachable.proofs.OneCall.{false≢true}
-use Rattle.reachable.proofs.Holding.{Holds, runs-number}
+use Rattle.reachable.proofs.Holding.{Holds, runs-number, runs-first}
 
 -- ---- a pass that has just begun
 
@@ -75,6 +76,7 @@ holds-begun β γ h e b s =
         active = s .active;
         four = b .four;
         number = λ n m. runs-number (γ .kind) (wordOf (γ .block) n) (crateAt γ n) (b .runs n m);
+        first = λ n m. runs-first (γ .kind) (wordOf (γ .block) n) (crateAt γ n) (b .runs n m);
         crates = s .crates;
         apart = rw (b .still);
       };
@@ -184,26 +186,26 @@ holds-crate β c k h d r sound s =
         number = λ n m.
             at-set (β .crates) c k l (λ i j. j .sent ≤ mostFrames (β .kind) (wordOf (β .block) i))
             (runs-number (β .kind) (wordOf (β .block) c) k r) n (q .number n m);
+        first = λ n m.
+            at-set (β .crates) c k l (λ i j. j .board < 10 → 1 ≤ j .sent) (runs-first (β .kind) (wordOf (β .block) c) k r) n (q .first n m);
         crates = λ n m. at-set (β .crates) c k l (λ i j. CrateInvariant (β .kind) j) sound n (q .crates n m);
         apart = rw (pass-apart (isRunning (β .run)) (β .crates) c h d (q .apart));
       };
       follows = λ n m. at-set (β .crates) c k l (λ i j. isDone j ≡ false → Runs (β .kind) (wordOf (β .block) i) j) (λ e. r) n (s .follows n m);
     }
 
-pub replied-done : (β : Board) (c : ℕ) (h : Judged) → c < 4 → isDone (crateAt β c) ≡ true → boardReplied β c h ≡ β
+pub replied-done : (β : Board) (c : ℕ) (h : Judged) (lent : List ℕ) → c < 4 → isDone (crateAt β c) ≡ true → boardReplied β c h lent ≡ β
 unfolding boardReplied servedAnswer
-replied-done β c h l d = let m : c ≤ 3 = omega arith in rw (le-ltb _ _ m, d)
+replied-done β c h lent l d = let m : c ≤ 3 = omega arith in rw (le-ltb _ _ m, d)
 
 -- the crate after a reply or a time-up on it
-abbrev pub judgedOn : Board → ℕ → Event → Judged
-judgedOn β c e = judged (frameAt β c) e
+abbrev pub next : Board → ℕ → Event → List ℕ → Crate
+next β c e lent = crateAfter (β .kind) (wordOf (β .block) c) (crateAt β c) (judgedOn β c e) lent
 
-abbrev pub next : Board → ℕ → Event → Crate
-next β c e = crateAfter (β .kind) (wordOf (β .block) c) (crateAt β c) (judgedOn β c e)
-
-runs-next : (β : Board) (c : ℕ) (e : Event) → Runs (β .kind) (wordOf (β .block) c) (crateAt β c) → Runs (β .kind) (wordOf (β .block) c) (next β c e)
-unfolding crateStep frameAt
-runs-next β c e r = step-runs (β .kind) (β .block) c (crateAt β c) e r
+runs-next : (β : Board) (c : ℕ) (e : Event) (lent : List ℕ) → Runs (β .kind) (wordOf (β .block) c) (crateAt β c)
+    → Runs (β .kind) (wordOf (β .block) c) (next β c e lent)
+unfolding crateStep crateNext frameAt
+runs-next β c e lent r = step-runs (β .kind) (β .block) c (crateAt β c) (Request.handIn e, lent) r
 
 -- a good reply to a ping carries a DNA that is kept
 event-below : (β : Board) (c : ℕ) (e : Event) → crateAt β c .code ≡ 4 → judgedOn β c e .good ≡ true → judgedOn β c e .dna < idLimit
@@ -211,13 +213,17 @@ unfolding frameAt
 event-below β c (Event.reply bytes) p g = ping-below (β .block) c (crateAt β c .board) (crateAt β c .code) p bytes g
 event-below β c Event.timeUp p g = false≢true g
 
-pub holds-event : (β : Board) (c : ℕ) (e : Event) → Holds β → Holds (boardReplied β c (judgedOn β c e))
-holds-event β c e s = go (ltb c 4) refl (isDone (crateAt β c)) refl
+pub holds-event : (β : Board) (c : ℕ) (e : Event) (lent : List ℕ) → Holds β → Holds (boardReplied β c (judgedOn β c e) lent)
+holds-event β c e lent s = go (ltb c 4) refl (isDone (crateAt β c)) refl
   where
-    go : (t : Bool) → ltb c 4 ≡ t → (u : Bool) → isDone (crateAt β c) ≡ u → Holds (boardReplied β c (judgedOn β c e))
-    go false p u q = rw (board-high β c (judgedOn β c e) (ltb-false _ _ p)) s
-    go true p true q = rw (replied-done β c (judgedOn β c e) (ltb-true _ _ p) q) s
+    h : Judged
+    h = judgedOn β c e
+
+    go : (t : Bool) → ltb c 4 ≡ t → (u : Bool) → isDone (crateAt β c) ≡ u → Holds (boardReplied β c h lent)
+    go false p u q = rw (board-high β c h lent (ltb-false _ _ p)) s
+    go true p true q = rw (replied-done β c h lent (ltb-true _ _ p) q) s
     go true p false q =
         let l : c < 4 = ltb-true _ _ p in
-        let sound = sound-after (β .kind) (wordOf (β .block) c) (crateAt β c) (judgedOn β c e) (event-below β c e) (s .reaches .crates c l) in
-        subst Holds (sym (board-low β c (judgedOn β c e) (omega arith))) (holds-crate β c (next β c e) l q (runs-next β c e (s .follows c l q)) sound s)
+        let sound = sound-after (β .kind) (wordOf (β .block) c) (crateAt β c) h (event-below β c e) lent (s .reaches .crates c l) in
+        subst Holds (sym (board-low β c h lent (omega arith)))
+        (holds-crate β c (next β c e lent) l q (runs-next β c e lent (s .follows c l q)) sound s)

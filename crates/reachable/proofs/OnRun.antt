@@ -38,6 +38,7 @@ holds-run β r h s a =
         active = k .active;
         four = k .four;
         number = k .number;
+        first = k .first;
         crates = k .crates;
         apart = a;
       };

@@ -5,35 +5,40 @@ use mathlib.Core.Path.{_≡_, refl, ap}
 use mathlib.Core.Bool.{Bool, true, false, not, _&&_}
 use mathlib.Core.List.{List, [], _∷_}
 use native.Mathlib.Omega.{arith}
+use lib.ListN.{set}
 use Rattle.refusals.specs.Tables.{Answer, given, refused}
 use Rattle.commands.specs.declared.Command.{Command}
 use Rattle.steps.specs.declared.Judged.{Judged}
+use Rattle.crate_pass.specs.Crate.{unlessRefused}
 use Rattle.crate_pass.specs.declared.Outcome.{Outcome}
 use Rattle.board.specs.State.{withCrates}
 use Rattle.board.specs.Commands.{boardAnswer}
-use Rattle.board.specs.SlowControl.{replyAnswer, afterReply, boardReplied}
+use Rattle.board.specs.SlowControl.{movedAt, replyAnswer, boardReplied}
 use Rattle.board.specs.declared.Board.{Board}
-use Rattle.reachable.specs.Calls.{Call, command, clockStep, trigger, reply, timeUp, afterCall, afterAll, noneGets}
+use Rattle.reachable.specs.Calls.{Call, command, clockStep, trigger, handIn, afterCall, afterAll, noneGets}
 
 pub false≢true : {A : Type 0} → false ≡ true → A
 false≢true e = absurd (let z : _≡_ {A = ℕ} 0 1 = cc in omega arith)
 
 -- ---- a reply or a time-up changes nothing but the crates
 
-module _ (β : Board) (c : ℕ) (h : Judged) where
-  replied-rest : boardReplied β c h ≡ withCrates β (boardReplied β c h .crates)
+module _ (β : Board) (c : ℕ) (h : Judged) (lent : List ℕ) where
+  replied-rest : boardReplied β c h lent ≡ withCrates β (boardReplied β c h lent .crates)
   unfolding boardReplied withCrates
-  replied-rest = go (replyAnswer β c h)
+  replied-rest = go (replyAnswer β c h lent)
     where
-      go : (a : Answer Outcome) → afterReply β c h a ≡ withCrates β (afterReply β c h a .crates)
+      next : Board
+      next = withCrates β (set (β .crates) c (movedAt β c h .state))
+
+      go : (a : Answer Outcome) → unlessRefused a next β ≡ withCrates β (unlessRefused a next β .crates)
       go (given o) = refl
       go (refused n p) = refl
 
-  pub replied-run : boardReplied β c h .run ≡ β .run
+  pub replied-run : boardReplied β c h lent .run ≡ β .run
   unfolding withCrates
   replied-run = ap (λ (γ : Board). γ .run) replied-rest
 
-  pub replied-block : boardReplied β c h .block ≡ β .block
+  pub replied-block : boardReplied β c h lent .block ≡ β .block
   unfolding withCrates
   replied-block = ap (λ (γ : Board). γ .block) replied-rest
 
@@ -44,8 +49,7 @@ abbrev pub Free : (Answer Command → Bool) → Board → Call → Type 0
 Free such β (command words) = such (boardAnswer β words) ≡ false
 Free such β (clockStep ticks) = Unit
 Free such β (trigger fields out) = Unit
-Free such β (reply c bytes) = Unit
-Free such β (timeUp c) = Unit
+Free such β (handIn c event out) = Unit
 
 not-and : (a b : Bool) → (not a && b) ≡ true → (a ≡ false) × (b ≡ true)
 not-and true b e = false≢true e
@@ -57,8 +61,7 @@ pub none-first : (such : Answer Command → Bool) (β : Board) (x : Call) (xs : 
 none-first such β (command words) xs e = not-and (such (boardAnswer β words)) (noneGets such (afterCall β (command words)) xs) e
 none-first such β (clockStep ticks) xs e = (tt, e)
 none-first such β (trigger fields out) xs e = (tt, e)
-none-first such β (reply c bytes) xs e = (tt, e)
-none-first such β (timeUp c) xs e = (tt, e)
+none-first such β (handIn c event out) xs e = (tt, e)
 
 -- what each call keeps that gets no such answer, they keep together
 pub kept-by-calls : (such : Answer Command → Bool) (P : Board → Type 0) → ((β : Board) (x : Call) → Free such β x → P β → P (afterCall β x))

@@ -23,14 +23,14 @@ use Rattle.board.specs.Commands.{boardAnswer, written, pinged, carriedOut, afte
 use Rattle.board.specs.SlowControl.{boardReplied, sentAnswer}
 use Rattle.board.specs.declared.Board.{Board}
 use Rattle.board.proofs.Serving.{board-high}
-use Rattle.reachable.specs.Calls.{Call, command, clockStep, trigger, reply, timeUp, afterCall, afterAll, beginsPass, isWriteOrPing, noWriteOrPing}
+use Rattle.reachable.specs.Calls.{Call, command, clockStep, trigger, handIn, afterCall, afterAll, beginsPass, isWriteOrPing, noWriteOrPing}
 use Rattle.reachable.specs.Stays.{PassStays}
 use Rattle.reachable.proofs.OneCall.{false≢true, Free, kept-by-calls}
 use Rattle.reachable.proofs.OnPasses.{all-done, replied-done}
 
 -- ---- with no frame outstanding, a call that begins no pass changes the run alone
 
-command-run : (β : Board) (block : List ℕ) (a : Answer Command) → isWriteOrPing a ≡ false → afterCommand β block a ≡ withRun β (afterCommand β block a .run)
+pub command-run : (β : Board) (block : List ℕ) (a : Answer Command) → isWriteOrPing a ≡ false → afterCommand β block a ≡ withRun β (afterCommand β block a .run)
 unfolding withRun
 command-run β block (given (Read kind)) e = refl
 command-run β block (given Write) e = false≢true (sym e)
@@ -41,24 +41,24 @@ command-run β block (given (CrateReset c)) e = refl
 command-run β block (refused n p) e = refl
 
 -- nothing is outstanding on any crate, or there is no such crate
-pub replied-same : (β : Board) (c : ℕ) (h : Judged) → inPass (β .crates) ≡ false → boardReplied β c h ≡ β
-replied-same β c h d = go (ltb c 4) refl
+pub replied-same : (β : Board) (c : ℕ) (h : Judged) (lent : List ℕ) → inPass (β .crates) ≡ false → boardReplied β c h lent ≡ β
+replied-same β c h lent d = go (ltb c 4) refl
   where
-    go : (t : Bool) → ltb c 4 ≡ t → boardReplied β c h ≡ β
-    go true p = let l = ltb-true c 4 p in replied-done β c h l (all-done (β .crates) d c l)
-    go false p = board-high β c h (ltb-false c 4 p)
+    go : (t : Bool) → ltb c 4 ≡ t → boardReplied β c h lent ≡ β
+    go true p = let l = ltb-true c 4 p in replied-done β c h lent l (all-done (β .crates) d c l)
+    go false p = board-high β c h lent (ltb-false c 4 p)
 
-replied-run : (β : Board) (c : ℕ) (h : Judged) → inPass (β .crates) ≡ false → boardReplied β c h ≡ withRun β (boardReplied β c h .run)
+replied-run : (β : Board) (c : ℕ) (h : Judged) (lent : List ℕ) → inPass (β .crates) ≡ false
+    → boardReplied β c h lent ≡ withRun β (boardReplied β c h lent .run)
 unfolding withRun
-replied-run β c h d = let e = replied-same β c h d in e ∙ ap (λ (γ : Board). withRun β (γ .run)) (sym e)
+replied-run β c h lent d = let e = replied-same β c h lent d in e ∙ ap (λ (γ : Board). withRun β (γ .run)) (sym e)
 
 call-run : (β : Board) (x : Call) → inPass (β .crates) ≡ false → Free isWriteOrPing β x → afterCall β x ≡ withRun β (afterCall β x .run)
 unfolding afterCall withRun
 call-run β (command words) d free = command-run β (blockOf words) (boardAnswer β words) free
 call-run β (clockStep ticks) d free = refl
 call-run β (trigger fields out) d free = refl
-call-run β (reply c bytes) d free = replied-run β c _ d
-call-run β (timeUp c) d free = replied-run β c _ d
+call-run β (handIn c event out) d free = replied-run β c _ out d
 
 -- the second board is the first but for the run
 abbrev RunAlone : Board → Board → Type 0

@@ -25,7 +25,7 @@ use Rattle.board.specs.State.{withRun}
 use Rattle.command_reader.specs.Reading.{blockOf}
 use Rattle.board.specs.Commands.{boardAnswer, written, pinged, afterCommand, boardAfter}
 use Rattle.board.specs.declared.Board.{Board}
-use Rattle.reachable.specs.Calls.{Call, command, clockStep, trigger, reply, timeUp, afterCall, afterAll, isStartOrStop, noStartOrStop}
+use Rattle.reachable.specs.Calls.{Call, command, clockStep, trigger, handIn, afterCall, afterAll, isStartOrStop, noStartOrStop}
 use Rattle.reachable.specs.Numbering.{whereGiven, numberOf, numbers, upFrom, GoesOn, Numbered}
 use Rattle.reachable.proofs.OneCall.{false≢true, Free, none-first, replied-run}
 use Rattle.run.proofs.Laws.{accepted-running}
@@ -106,8 +106,7 @@ unfolding afterCall withRun clockedRun
 next-call l m β (command words) free g = same refl (going-command l m β (blockOf words) (boardAnswer β words) free g)
 next-call l m β (clockStep ticks) free g = same refl (kept l m (β .run) (clockedRun (β .run) ticks) refl refl g)
 next-call l m β (trigger fields out) free g = next-trigger l m (β .run) fields out g
-next-call l m β (reply c bytes) free g = same refl (rw (replied-run β c _) g)
-next-call l m β (timeUp c) free g = same refl (rw (replied-run β c _) g)
+next-call l m β (handIn c event out) free g = same refl (rw (replied-run β c _ out) g)
 
 -- ---- and many
 

@@ -10,8 +10,7 @@ use Rattle.commands.specs.declared.Command.the-variants.{Read, Write, Start, St
 use Rattle.board.specs.State.{freshBoard}
 use Rattle.board.specs.Commands.{boardAnswer, boardAfter}
 use Rattle.board.specs.declared.Board.{Board}
-use Rattle.any_order.specs.Steps.{Event}
-use Rattle.reachable.specs.Calls.{Call, command, clockStep, trigger, reply, timeUp, afterCall, afterAll}
+use Rattle.reachable.specs.Calls.{Call, command, clockStep, trigger, handIn, afterCall, afterAll}
 use Rattle.reachable.specs.Reachable.{Reachable}
 use Rattle.reachable.proofs.Holding.{Holds, holds-reachable, holds-power-up}
 use Rattle.reachable.proofs.OnRun.{holds-clock, holds-trigger, holds-start, holds-stop, holds-reset}
@@ -36,8 +35,7 @@ unfolding afterCall
 holds-kept β (command words) h = holds-command β words h
 holds-kept β (clockStep ticks) h = holds-clock β ticks h
 holds-kept β (trigger fields out) h = holds-trigger β fields out h
-holds-kept β (reply c bytes) h = holds-event β c (Event.reply bytes) h
-holds-kept β (timeUp c) h = holds-event β c Event.timeUp h
+holds-kept β (handIn c event out) h = holds-event β c event out h
 
 pub holds-all : (β : Board) (xs : List Call) → Holds β → Holds (afterAll β xs)
 holds-all β [] h = h

@@ -7,26 +7,25 @@ use Rattle.packets.specs.declared.Fields.{Fields}
 use Rattle.commands.specs.Commands as commands
 use Rattle.commands.specs.declared.Command.{Command}
 use Rattle.commands.specs.declared.Command.the-variants.{Read, Write, Start, Stop, Ping, CrateReset}
-use Rattle.steps.specs.Steps.{noReply}
 use Rattle.board.specs.Commands.{boardAnswer, boardAfter, afterTriggerOn, afterClockStep}
-use Rattle.board.specs.SlowControl.{boardReplied, judgedAt}
+use Rattle.board.specs.SlowControl.{boardReplied}
 use Rattle.board.specs.declared.Board.{Board}
+use Rattle.any_order.specs.Steps.{Event}
+use Rattle.any_order.specs.AnyOrder.{judgedOn}
 
--- the calls that take a state to the next, with what the caller gives and lends; the others change no state
+-- the calls that take a state to the next, with what the caller gives and lends (`handIn`: a reply or a time-up); the others change no state
 pub data Call : Type 0 where
   command : List ℕ → Call
   clockStep : ℕ → Call
   trigger : Fields → List ℕ → Call
-  reply : ℕ → List ℕ → Call
-  timeUp : ℕ → Call
+  handIn : ℕ → Event → List ℕ → Call
 
 -- the next state, as the calls promise it
 unfoldable pub afterCall : Board → Call → Board
 afterCall β (command words) = boardAfter β words
 afterCall β (clockStep ticks) = afterClockStep β ticks
 afterCall β (trigger fields out) = afterTriggerOn β fields out
-afterCall β (reply c bytes) = boardReplied β c (judgedAt β c bytes)
-afterCall β (timeUp c) = boardReplied β c noReply
+afterCall β (handIn c event out) = boardReplied β c (judgedOn β c event) out
 
 abbrev pub afterAll : Board → List Call → Board
 afterAll β [] = β
@@ -89,8 +88,7 @@ noneGets such β [] = true
 noneGets such β (command words ∷ xs) = not (such (boardAnswer β words)) && noneGets such (afterCall β (command words)) xs
 noneGets such β (clockStep ticks ∷ xs) = noneGets such (afterCall β (clockStep ticks)) xs
 noneGets such β (trigger fields out ∷ xs) = noneGets such (afterCall β (trigger fields out)) xs
-noneGets such β (reply c bytes ∷ xs) = noneGets such (afterCall β (reply c bytes)) xs
-noneGets such β (timeUp c ∷ xs) = noneGets such (afterCall β (timeUp c)) xs
+noneGets such β (handIn c event out ∷ xs) = noneGets such (afterCall β (handIn c event out)) xs
 
 abbrev pub noWrite : Board → List Call → Bool
 noWrite β xs = noneGets isWrite β xs

@@ -4,3 +4,4 @@ pub mod Reachable
 pub mod Numbering
 pub mod Stays
 pub mod Fresh
+pub mod FirstFrame

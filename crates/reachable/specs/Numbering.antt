@@ -10,7 +10,7 @@ use Rattle.commands.specs.declared.RunLength.{RunLength}
 use Rattle.commands.specs.declared.RunLength.the-variants.{Endless, Counted}
 use Rattle.run.specs.Run.{isRunning, triggerNumber, triggerAnswer}
 use Rattle.board.specs.declared.Board.{Board}
-use Rattle.reachable.specs.Calls.{Call, command, clockStep, trigger, reply, timeUp, afterCall, afterAll}
+use Rattle.reachable.specs.Calls.{Call, command, clockStep, trigger, handIn, afterCall, afterAll}
 
 -- the number of the packet that a call gives, where it is a trigger that is accepted
 abbrev pub whereGiven : Answer ℕ → ℕ → List ℕ
@@ -21,8 +21,7 @@ abbrev pub numberOf : Board → Call → List ℕ
 numberOf β (command words) = []
 numberOf β (clockStep ticks) = []
 numberOf β (trigger fields out) = whereGiven (triggerAnswer (β .run) fields out) (triggerNumber (β .run))
-numberOf β (reply c bytes) = []
-numberOf β (timeUp c) = []
+numberOf β (handIn c event out) = []
 
 -- the numbers of the triggers among calls, in their order
 abbrev pub numbers : Board → List Call → List ℕ

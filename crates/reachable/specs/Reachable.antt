@@ -33,6 +33,8 @@ pub record Reachable (β : Board) : Type 0 where
   -- 01, Slow control: four crates; "nine per active board", and thirty in a ping; places, tries, records and list entries of the last pass begun
   pub four : length (β .crates) ≡ 4
   pub number : (c : ℕ) → c < 4 → crateAt β c .sent ≤ mostFrames (β .kind) (activeWord (β .block) c)
+  -- ".. and one more while a frame is outstanding": then one at least
+  pub first : (c : ℕ) → c < 4 → crateAt β c .board < 10 → 1 ≤ crateAt β c .sent
   pub crates : (c : ℕ) → c < 4 → CrateInvariant (β .kind) (crateAt β c)
   -- 01, Command words: "The board is idle, running, or in a pass"
   pub apart : (isRunning (β .run) && inPass (β .crates)) ≡ false

@@ -1,3 +1,2 @@
 -- Laws that belong to no one function.
-pub mod Replies
-pub mod TimeUps
+pub mod Items

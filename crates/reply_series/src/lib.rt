@@ -1,18 +1,27 @@
-// Replies and time-ups one after another, on the whole board or on the crates alone. An item is 29 bytes: a crate's number, and a reply
-// of 28 bytes.
+// Replies and time-ups one after another, on the whole board or on the crates alone. An item is a crate's number, and for a reply its 28
+// bytes. Every item lends the same bytes for the next frame, so after the last they hold what the last frame given left there.
 ghost use mathlib.Core.Path.{_≡_};
-ghost use Prim.Native.Nat.{_/_, _≤_};
-ghost use lib.ListN.{length};
+ghost use Prim.Native.Nat.{_≤_};
 ghost use Rattle.refusals.specs.Tables.{isGiven};
 ghost use Rattle.crate_pass.specs.Crate.{replyMeaning};
-ghost use Rattle.reply_series.specs.Series.{goodOutcome, goodOf, CountsGood, servedOf};
+ghost use Rattle.reply_series.specs.Series.{itemSize, goodOutcome, counts, Counts, CountsGood};
 use board::Board;
 use configuration::active_word;
 use crate_pass::Crate;
 use crate_pass::Outcome;
 use crate_pass::PassKind;
 use crate_pass::ReplyAnswer;
-use steps::judge_reply;
+use steps::Event;
+
+// The bytes of an item.
+fn item_size(event: Event) -> usize
+    ensures { λ r. ⌜ (r ≡ itemSize event) × (1 ≤ r) ⌝ }
+{
+    match event {
+        Event::Reply => 29,
+        Event::TimeUp => 1,
+    }
+}
 
 // Whether an answer is good: 1, else 0.
 fn good_count(answer: ReplyAnswer) -> u64
@@ -28,51 +37,7 @@ fn good_count(answer: ReplyAnswer) -> u64
     }
 }
 
-// How many replies of the items are good, on the crates alone.
-pub fn good_replies(first: [Crate; 4], block: &[u16], kind: PassKind, items: &[u8]) -> u64
-    ensures { λ r. ⌜ CountsGood (now (block .entry)) kind first (now (items .entry)) r ⌝ }
-{
-    let mut crates = first;
-    let mut good = 0;
-    let n = items.len() / 29;
-    let mut i = 0;
-    while i < n {
-        let index = items[29 * i];
-        if index < 4 {
-            let at = index as usize;
-            let own = crates[at];
-            let reply = &items[29 * i + 1..29 * i + 29];
-            let judged = judge_reply(block, index, own.board, own.code, reply);
-            let served = own.serve(kind, active_word(block, index), judged);
-            let state = served.state;
-            let answer = served.answer;
-            crates[at] = state;
-            good += good_count(answer);
-        }
-        i += 1;
-    }
-    good
-}
-
-// How many replies of the items are good, each by a call on the whole board.
-pub fn good_on_board(mut board: Board, items: &[u8]) -> u64
-    ensures { λ r. ⌜ r ≡ goodOf (length (now (items .entry)) / 29) board (now (items .entry)) ⌝ }
-{
-    let mut good = 0;
-    let n = items.len() / 29;
-    let mut i = 0;
-    while i < n {
-        let replied = board.reply(items[29 * i], &items[29 * i + 1..29 * i + 29]);
-        let answer = replied.answer;
-        let next = replied.board;
-        good += good_count(answer);
-        board = next;
-        i += 1;
-    }
-    good
-}
-
-// Whether a time-up is served: 1, else 0.
+// Whether an item is served: 1, else 0.
 fn served_count(answer: ReplyAnswer) -> u64
     ensures { λ r. ⌜ (r ≡ isGiven (replyMeaning answer)) × (r ≤ 1) ⌝ }
 {
@@ -82,20 +47,61 @@ fn served_count(answer: ReplyAnswer) -> u64
     }
 }
 
-// How many time-ups are served, one on each of the crates in turn.
-pub fn served_time_ups(first: Board, crates: &[u8]) -> u64
-    ensures { λ r. ⌜ r ≡ servedOf first (now (crates .entry)) ⌝ }
+// Whether an item counts, a reply where it is good, a time-up where it is served: 1, else 0.
+fn count_of(event: Event, answer: ReplyAnswer) -> u64
+    ensures { λ r. ⌜ (r ≡ counts event (replyMeaning answer)) × (r ≤ 1) ⌝ }
 {
-    let mut board = first;
-    let mut served = 0;
-    let mut i = 0;
-    while i < crates.len() {
-        let replied = board.time_up(crates[i]);
+    match event {
+        Event::Reply => good_count(answer),
+        Event::TimeUp => served_count(answer),
+    }
+}
+
+// How many replies of the items are good, on the crates alone.
+pub fn good_replies(
+    first: [Crate; 4],
+    block: &[u16],
+    kind: PassKind,
+    items: &[u8],
+    frame: &mut [u8],
+) -> u64
+    ensures { λ r. ⌜ CountsGood (now (block .entry)) kind first (now (items .entry)) (now (frame .entry)) r (now (frame .exit)) ⌝ }
+{
+    let mut crates = first;
+    let mut good = 0;
+    let mut rest = items;
+    while 29 <= rest.len() {
+        let index = rest[0];
+        if index < 4 {
+            let at = index as usize;
+            let own = crates[at];
+            let reply = &rest[1..29];
+            let word = active_word(block, index);
+            let served = own.serve(kind, word, block, index, Event::Reply, reply, frame);
+            let state = served.state;
+            let answer = served.answer;
+            crates[at] = state;
+            good += good_count(answer);
+        }
+        rest = &rest[29..];
+    }
+    good
+}
+
+// How many of the items count, each by a call on the whole board.
+pub fn count_on_board(mut board: Board, event: Event, items: &[u8], frame: &mut [u8]) -> u64
+    ensures { λ r. ⌜ Counts event board (now (items .entry)) (now (frame .entry)) r (now (frame .exit)) ⌝ }
+{
+    let size = item_size(event);
+    let mut count = 0;
+    let mut rest = items;
+    while size <= rest.len() {
+        let replied = board.hand_in(rest[0], event, &rest[1..size], frame);
         let answer = replied.answer;
         let next = replied.board;
-        served += served_count(answer);
+        count += count_of(event, answer);
         board = next;
-        i += 1;
+        rest = &rest[size..];
     }
-    served
+    count
 }

@@ -9,7 +9,7 @@ use Rattle.refusals.specs.Tables.{Answer, given, refused}
 use Rattle.commands.specs.declared.Command.{Command}
 use Rattle.crate_pass.specs.declared.Outcome.{Outcome}
 use Rattle.texts.specs.declared.Response.{Response}
-use Rattle.texts.specs.Texts.{Printed, numbers, done, served, inBytes, inWords, responseMeaning}
+use Rattle.texts.specs.Texts.{Printed, numbers, done, served, inBytes, inWords, nextFrame, responseMeaning}
 
 -- ---- what is printed
 
@@ -22,9 +22,10 @@ abbrev pub commandPrinted : ℕ → Answer Command → Printed
 commandPrinted used (given c) = done used c
 commandPrinted used (refused n p) = numbers (cond (eqb n 8) (n ∷ used ∷ p ∷ []) (n ∷ used ∷ []))
 
-abbrev pub outcomePrinted : Answer Outcome → Printed
-outcomePrinted (given o) = served o
-outcomePrinted (refused n p) = refusalPrinted n p
+-- an outcome, and the frame that is then due
+abbrev pub outcomePrinted : Answer Outcome → List ℕ → Printed
+outcomePrinted (given o) due = served o due
+outcomePrinted (refused n p) due = refusalPrinted n p
 
 -- bytes or words that are due, printed in their way
 abbrev pub duePrinted : (List ℕ → Printed) → Answer (List ℕ) → Printed
@@ -41,6 +42,11 @@ writtenPrinted print (refused n p) = refusalPrinted n p
 -- s prints this, whatever bytes and words stand beside it
 abbrev pub Prints : Response → Printed → Type 0
 Prints s r = (bytes words : List ℕ) → responseMeaning s bytes words ≡ r
+
+-- s prints what a reply or a time-up got, with the lent bytes beside it
+abbrev pub PrintsOutcome : Response → Answer Outcome → Type 0
+PrintsOutcome s (given o) = (bytes words : List ℕ) → responseMeaning s bytes words ≡ served o (nextFrame o bytes)
+PrintsOutcome s (refused n p) = Prints s (refusalPrinted n p)
 
 -- s prints what a writer answered, whose bytes, or words, stand beside it
 abbrev pub PrintsWrittenBytes : Response → Answer ℕ → Type 0

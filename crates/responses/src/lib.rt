@@ -3,7 +3,7 @@ ghost use Rattle.refusals.specs.Refusals.{numberOf, placeOf};
 ghost use Rattle.refusals.specs.Writing.{writtenMeaning};
 ghost use Rattle.acceptance.specs.Acceptance.{answerMeaning};
 ghost use Rattle.crate_pass.specs.Crate.{replyMeaning};
-ghost use Rattle.responses.specs.Responses.{refusalPrinted, commandPrinted, outcomePrinted, Prints, PrintsWrittenBytes, PrintsWrittenWords};
+ghost use Rattle.responses.specs.Responses.{refusalPrinted, commandPrinted, Prints, PrintsOutcome, PrintsWrittenBytes, PrintsWrittenWords};
 use acceptance::CommandAnswer;
 use crate_pass::ReplyAnswer;
 use refusals::Refusal;
@@ -33,9 +33,9 @@ pub fn command_response(answer: CommandAnswer, used: usize) -> Response
     }
 }
 
-// What is printed for a reply or a time-up.
+// What is printed for a reply or a time-up, with the lent bytes beside it.
 pub fn outcome_response(answer: ReplyAnswer) -> Response
-    ensures { λ r. ⌜ Prints r (outcomePrinted (replyMeaning answer)) ⌝ }
+    ensures { λ r. ⌜ PrintsOutcome r (replyMeaning answer) ⌝ }
 {
     match answer {
         ReplyAnswer::Served(o) => Response::Served(o),

@@ -8,6 +8,8 @@ use Rattle.frames.specs.Frames.{frameOf}
 use Rattle.frames.specs.declared.Code.{Code}
 use Rattle.frames.specs.declared.Code.the-variants.{Dacs, Enables, Prescaling, Ping}
 use Rattle.replies.specs.Replies.{goodReply, carriedIn}
+use Rattle.steps.specs.declared.Event.{Event}
+use Rattle.steps.specs.declared.Event.the-variants.{Reply, TimeUp}
 use Rattle.steps.specs.declared.Judged.{Judged}
 
 -- "Code 1 carries the five DACs, 2 the four enables, 3 the prescaling, 4 pings"; there is no other
@@ -30,3 +32,8 @@ judgedReply sent reply =
 -- a time-up is no good reply
 abbrev pub noReply : Judged
 noReply = record { good = false; dna = 0; «crc_errors» = 0 }
+
+-- "A bad reply, or a time-up, sends again": what either says as the answer to the frame sent; a time-up has no bytes
+abbrev pub judgedEvent : Event → List ℕ → List ℕ → Judged
+judgedEvent Reply sent bytes = judgedReply sent bytes
+judgedEvent TimeUp sent bytes = noReply

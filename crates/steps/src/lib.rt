@@ -2,7 +2,7 @@
 ghost use mathlib.Core.Path.{_≡_};
 ghost use mathlib.Core.List.{[]};
 ghost use Rattle.refusals.specs.Writing.{Wrote};
-ghost use Rattle.steps.specs.Steps.{codeNumbered, stepFrame, judgedReply, noReply};
+ghost use Rattle.steps.specs.Steps.{codeNumbered, stepFrame, judgedReply, noReply, judgedEvent};
 use configuration::board_words;
 use configuration::settings_of;
 use frames::Code;
@@ -12,6 +12,12 @@ use refusals::Refusal;
 use refusals::Written;
 use replies::carried;
 use replies::is_good;
+
+// What follows a frame: a reply, or none in time.
+pub enum Event {
+    Reply,
+    TimeUp,
+}
 
 // What a reply or a time-up says as the answer to a frame: whether it is good, and what a ping reply carries.
 pub struct Judged {
@@ -73,7 +79,7 @@ fn judge(sent: [u8; 28], reply: &[u8]) -> Judged
 }
 
 // What a reply of any length says as the answer to the frame of a step, whose CRC is not needed for it.
-pub fn judge_reply(block: &[u16], c: u8, b: u8, code: u8, reply: &[u8]) -> Judged
+fn judge_reply(block: &[u16], c: u8, b: u8, code: u8, reply: &[u8]) -> Judged
     ensures { λ r. ⌜ r ≡ judgedReply (stepFrame (now (block .entry)) c b code) (now (reply .entry)) ⌝ }
 {
     let settings = settings_of(board_words(block, c, b));
@@ -81,12 +87,22 @@ pub fn judge_reply(block: &[u16], c: u8, b: u8, code: u8, reply: &[u8]) -> Judge
 }
 
 // What a time-up says.
-pub fn no_reply() -> Judged
+fn no_reply() -> Judged
     ensures { λ r. ⌜ r ≡ noReply ⌝ }
 {
     Judged {
         good: false,
         dna: 0,
         crc_errors: 0,
+    }
+}
+
+// What an event says as the answer to the frame of a step: a reply by its bytes, a time-up whatever the bytes.
+pub fn judge_event(block: &[u16], c: u8, b: u8, code: u8, event: Event, bytes: &[u8]) -> Judged
+    ensures { λ r. ⌜ r ≡ judgedEvent event (stepFrame (now (block .entry)) c b code) (now (bytes .entry)) ⌝ }
+{
+    match event {
+        Event::Reply => judge_reply(block, c, b, code, bytes),
+        Event::TimeUp => no_reply(),
     }
 }

@@ -9,21 +9,20 @@ use lib.ListN.{length, set, length-set}
 use lib.Seq.{getD-set-same, getD-set-other}
 use borrow.Author.Tests.{ltb-true, ltb-false, leb-false, leb-true, le-leb, le-ltb}
 use Rattle.configuration.specs.Configuration.{activeWord}
-use Rattle.steps.specs.Steps.{noReply}
 use Rattle.run.specs.Run.{isRunning}
-use Rattle.crate_pass.specs.Crate.{serves, firstServed, nextBoard, placed, withRecord, advanced, withOutcome, afterFailedSend, isDone}
+use Rattle.crate_pass.specs.Crate.{serves, firstServed, nextBoard, placed, withRecord, advanced, withOutcome, afterFailedSend, isDone, servedAnswer}
 use Rattle.crate_pass.specs.declared.PassKind.{PassKind}
 use Rattle.crate_pass.specs.declared.Outcome.the-variants.{Again, BoardFailed}
 use Rattle.crate_pass.specs.declared.Crate.{Crate}
-use Rattle.four_crates.specs.FourCrates.{noCrate, inPass, servedAnswer}
+use Rattle.four_crates.specs.FourCrates.{noCrate, inPass}
 use Rattle.board.specs.State.{crateAt, withCrates, isIdle}
 use Rattle.board.specs.SlowControl.{boardReplied}
 use Rattle.board.specs.declared.Board.{Board}
-use Rattle.stream.specs.Stream.{timeUps, ranOut}
+use Rattle.stream.specs.Stream.{timedUp, timeUps, ranOut}
 
 -- ---- a run of time-ups, one at a time
 
-pub more-time-ups : (n c : ℕ) (β : Board) (i : ℕ) → i < n → timeUps (n - i) c β ≡ timeUps (n - (i + 1)) c (boardReplied β c noReply)
+pub more-time-ups : (n c : ℕ) (β : Board) (i : ℕ) → i < n → timeUps (n - i) c β ≡ timeUps (n - (i + 1)) c (timedUp c β)
 unfolding timeUps
 more-time-ups n c β i h = let l : n - i ≡ suc (n - (i + 1)) = omega arith in rw l
 
@@ -92,14 +91,14 @@ failed-send-enough kind w k n h e = subst (Enough n) (sym (failed-send-by kind w
 -- ---- one crate of a board
 
 -- a time-up on crate i, by whether it is done
-abbrev timedUp : Board → ℕ → Bool → Board
-timedUp β i t = cond t β (withCrates β (set (β .crates) i (afterFailedSend (β .kind) (activeWord (β .block) i) (crateAt β i) .state)))
+abbrev timedUpBy : Board → ℕ → Bool → Board
+timedUpBy β i t = cond t β (withCrates β (set (β .crates) i (afterFailedSend (β .kind) (activeWord (β .block) i) (crateAt β i) .state)))
 
-timed-up : (β : Board) (i : ℕ) → i < 4 → boardReplied β i noReply ≡ timedUp β i (isDone (crateAt β i))
+timed-up : (β : Board) (i : ℕ) → i < 4 → timedUp i β ≡ timedUpBy β i (isDone (crateAt β i))
 unfolding boardReplied servedAnswer
 timed-up β i h = go (isDone (crateAt β i)) refl
   where
-    go : (t : Bool) → isDone (crateAt β i) ≡ t → boardReplied β i noReply ≡ timedUp β i t
+    go : (t : Bool) → isDone (crateAt β i) ≡ t → timedUp i β ≡ timedUpBy β i t
     go true p = simp (le-ltb 3 i (omega arith), p)
     go false p = simp (le-ltb 3 i (omega arith), p)
 
@@ -109,13 +108,13 @@ record Apart (i : ℕ) (β γ : Board) : Type 0 where
   many : length (γ .crates) ≡ length (β .crates)
   others : (j : ℕ) → (j ≡ i → ⊥) → crateAt γ j ≡ crateAt β j
 
-timed-apart : (β : Board) (i : ℕ) (t : Bool) → Apart i β (timedUp β i t)
+timed-apart : (β : Board) (i : ℕ) (t : Bool) → Apart i β (timedUpBy β i t)
 unfolding withCrates
 timed-apart β i true = record { run = refl; many = refl; others = λ j h. refl }
 timed-apart β i false = record { run = refl; many = length-set (β .crates) i _; others = λ j h. getD-set-other (β .crates) i j _ noCrate h }
 
 timed-enough : (β : Board) (i n : ℕ) (t : Bool) → isDone (crateAt β i) ≡ t → i < length (β .crates)
-    → Enough (suc n) (crateAt β i) → Enough n (crateAt (timedUp β i t) i)
+    → Enough (suc n) (crateAt β i) → Enough n (crateAt (timedUpBy β i t) i)
 unfolding withCrates
 timed-enough β i n true p h e = done-enough n (crateAt β i .board) (crateAt β i .tries) (leb-true _ _ p)
 timed-enough β i n false p h e =
@@ -126,16 +125,16 @@ run-apart : (n i : ℕ) (β : Board) → i < 4 → Apart i β (timeUps n i β)
 unfolding timeUps
 run-apart zero i β h = record { run = refl; many = refl; others = λ j g. refl }
 run-apart (suc n) i β h =
-    let a = run-apart n i (boardReplied β i noReply) h in
-    let b : Apart i β (boardReplied β i noReply) = subst (Apart i β) (sym (timed-up β i h)) (timed-apart β i (isDone (crateAt β i))) in
+    let a = run-apart n i (timedUp i β) h in
+    let b : Apart i β (timedUp i β) = subst (Apart i β) (sym (timed-up β i h)) (timed-apart β i (isDone (crateAt β i))) in
     record { run = a .run ∙ b .run; many = a .many ∙ b .many; others = λ j g. a .others j g ∙ b .others j g }
 
 run-enough : (n i : ℕ) (β : Board) → i < 4 → length (β .crates) ≡ 4 → Enough n (crateAt β i) → Enough 0 (crateAt (timeUps n i β) i)
 unfolding timeUps
 run-enough zero i β h l e = e
 run-enough (suc n) i β h l e =
-    let b : Apart i β (boardReplied β i noReply) = subst (Apart i β) (sym (timed-up β i h)) (timed-apart β i (isDone (crateAt β i))) in
-    run-enough n i (boardReplied β i noReply) h (b .many ∙ l)
+    let b : Apart i β (timedUp i β) = subst (Apart i β) (sym (timed-up β i h)) (timed-apart β i (isDone (crateAt β i))) in
+    run-enough n i (timedUp i β) h (b .many ∙ l)
     (subst (λ (γ : Board). Enough n (crateAt γ i)) (sym (timed-up β i h)) (timed-enough β i n (isDone (crateAt β i)) refl (omega arith) e))
 
 -- ---- the four crates

@@ -14,10 +14,14 @@ use Rattle.board.specs.SlowControl.{boardReplied}
 use Rattle.board.specs.declared.Board.{Board}
 use Rattle.stream.specs.declared.Listing.{Listing}
 
--- n time-ups on crate c
+-- a time-up on crate c, with room for a frame
+abbrev pub timedUp : ℕ → Board → Board
+timedUp c β = boardReplied β c noReply (replicate 28 0)
+
+-- n of them
 unfoldable pub timeUps : ℕ → ℕ → Board → Board
 timeUps zero c β = β
-timeUps (suc n) c β = timeUps n c (boardReplied β c noReply)
+timeUps (suc n) c β = timeUps n c (timedUp c β)
 
 -- "each pass runs out before the next command": three sends to each of ten boards end any pass on a crate (proofs/RunOut.antt, `runs-out`).
 -- Time-ups where nothing is outstanding change nothing

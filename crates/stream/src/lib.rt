@@ -10,6 +10,7 @@ use acceptance::CommandAnswer;
 use board::Board;
 use board::power_up;
 use command_reader::rest_after;
+use steps::Event;
 use words::words_from_bytes;
 
 // The answers to the commands of a stream, in their order.
@@ -21,14 +22,15 @@ pub struct Listing {
     pub answers: [u8; 6554],
 }
 
-// Thirty time-ups on a crate.
+// Thirty time-ups on a crate, which need no bytes of a reply; their frames go to no board.
 fn run_out_on(board: Board, c: u8) -> Board
     ensures { λ r. ⌜ r ≡ timeUps 30 c board ⌝ }
 {
     let mut b = board;
     let mut i = 0u8;
     while i < 30 {
-        let r = b.time_up(c);
+        let mut frame = [0u8; 28];
+        let r = b.hand_in(c, Event::TimeUp, &[0u8; 28], &mut frame);
         b = r.board;
         i += 1;
     }

@@ -59,7 +59,7 @@ abbrev responseOf : Printed → Response
 responseOf question = Question
 responseOf (numbers l) = ofNumbers l
 responseOf (done used c) = Done used c
-responseOf (served o) = Served o
+responseOf (served o frame) = Served o
 responseOf (inBytes l) = Bytes (length l)
 responseOf (inWords l) = Words (length l)
 responseOf (block h l) = Block h (length l)

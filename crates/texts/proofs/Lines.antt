@@ -65,9 +65,9 @@ pub as-printed : map textOf
     ∷ numbers (4 ∷ 0 ∷ [])
     ∷ numbers (9 ∷ 441 ∷ [])
     ∷ numbers (8 ∷ 0 ∷ 432 ∷ [])
-    ∷ served (Good false)
-    ∷ served (Again false)
-    ∷ served (BoardFailed true)
+    ∷ served (Good false) (64 ∷ 0 ∷ 192 ∷ [])
+    ∷ served (Again false) (171 ∷ [])
+    ∷ served (BoardFailed true) []
     ∷ inBytes (0 ∷ 171 ∷ 255 ∷ [])
     ∷ inWords (64 ∷ 48879 ∷ [])
     ∷ numbers (18446744073709551615 ∷ [])
@@ -89,8 +89,8 @@ pub as-printed : map textOf
     ∷ ascii "4 0\n"
     ∷ ascii "9 441\n"
     ∷ ascii "8 0 432\n"
-    ∷ ascii "0 good\n"
-    ∷ ascii "0 again\n"
+    ∷ ascii "0 good 4000C0\n"
+    ∷ ascii "0 again AB\n"
     ∷ ascii "0 failed done\n"
     ∷ ascii "0 00ABFF\n"
     ∷ ascii "0 0040BEEF\n"

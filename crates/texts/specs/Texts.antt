@@ -9,6 +9,7 @@ use Rattle.commands.specs.declared.BlockKind.{BlockKind}
 use Rattle.commands.specs.declared.BlockKind.the-variants.{Static, Dynamic}
 use Rattle.commands.specs.declared.Command.{Command}
 use Rattle.commands.specs.declared.Command.the-variants.{Read, Write, Start, Stop, Ping, CrateReset}
+use Rattle.crate_pass.specs.Crate.{saysDone}
 use Rattle.crate_pass.specs.declared.Outcome.{Outcome}
 use Rattle.crate_pass.specs.declared.Outcome.the-variants.{Good, Again, BoardFailed}
 use Rattle.numbers.specs.Numbers.{digits}
@@ -60,15 +61,16 @@ commandText Stop = ascii "stop"
 commandText Ping = ascii "ping"
 commandText (CrateReset c) = ascii "reset " ++ decimal c
 
--- "with ` done` after it where the crate is done"
-abbrev pub doneText : Bool → List ℕ
-doneText true = ascii " done"
-doneText false = []
-
+-- "`0 good`, `0 again` or `0 failed`"
 abbrev pub outcomeText : Outcome → List ℕ
-outcomeText (Good done) = ascii "good" ++ doneText done
-outcomeText (Again done) = ascii "again" ++ doneText done
-outcomeText (BoardFailed done) = ascii "failed" ++ doneText done
+outcomeText (Good done) = ascii "good"
+outcomeText (Again done) = ascii "again"
+outcomeText (BoardFailed done) = ascii "failed"
+
+-- "and then the next frame's bytes, or `done` where the crate is done"
+abbrev pub nextText : Bool → List ℕ → List ℕ
+nextText true frame = ascii "done"
+nextText false frame = joined hexByte frame
 
 -- ---- lines
 
@@ -77,7 +79,7 @@ pub data Printed : Type 0 where
   question : Printed
   numbers : List ℕ → Printed
   done : ℕ → Command → Printed
-  served : Outcome → Printed
+  served : Outcome → List ℕ → Printed
   inBytes : List ℕ → Printed
   inWords : List ℕ → Printed
   block : Header → List ℕ → Printed
@@ -88,7 +90,7 @@ abbrev pub fieldsOf : Printed → List (List ℕ)
 fieldsOf question = ascii "?" ∷ []
 fieldsOf (numbers ns) = map decimal ns
 fieldsOf (done used c) = ascii "0" ∷ decimal used ∷ commandText c ∷ []
-fieldsOf (served o) = ascii "0" ∷ outcomeText o ∷ []
+fieldsOf (served o frame) = ascii "0" ∷ outcomeText o ∷ nextText (saysDone o) frame ∷ []
 fieldsOf (inBytes bs) = ascii "0" ∷ joined hexByte bs ∷ []
 fieldsOf (inWords ws) = ascii "0" ∷ joined hexWord ws ∷ []
 fieldsOf (block h body) =
@@ -124,6 +126,10 @@ packetNumbers p =
     ∷ bitOf (f .lp1)
     ∷ []
 
+-- the next frame, in the bytes beside an outcome; none where the crate is done
+abbrev pub nextFrame : Outcome → List ℕ → List ℕ
+nextFrame o bytes = cond (saysDone o) [] bytes
+
 -- what is printed, with the arrays beside it
 abbrev pub responseMeaning : Response → List ℕ → List ℕ → Printed
 responseMeaning Question bytes words = question
@@ -131,7 +137,7 @@ responseMeaning (One a) bytes words = numbers (a ∷ [])
 responseMeaning (Two a b) bytes words = numbers (a ∷ b ∷ [])
 responseMeaning (Three a b c) bytes words = numbers (a ∷ b ∷ c ∷ [])
 responseMeaning (Done used c) bytes words = done used c
-responseMeaning (Served o) bytes words = served o
+responseMeaning (Served o) bytes words = served o (nextFrame o bytes)
 responseMeaning (Bytes n) bytes words = inBytes (take n bytes)
 responseMeaning (Words n) bytes words = inWords (take n words)
 responseMeaning (Packet p) bytes words = numbers (packetNumbers p)

@@ -5,8 +5,8 @@ ghost use Prim.Native.Nat.{_+_, _*_, _≤_, _<_, min};
 ghost use lib.ListN.{length, take};
 ghost use Rattle.packets.specs.Packets.{bitOf};
 ghost use Rattle.texts.specs.Characters.{ascii};
-ghost use Rattle.texts.specs.Texts.{hexDigit, hexByte, hexWord, decimal, commandText, doneText};
-ghost use Rattle.texts.specs.Texts.{done, served, inBytes, block, packetNumbers, joined, spaced, fieldsOf, textOf, responseMeaning, inFront};
+ghost use Rattle.texts.specs.Texts.{hexDigit, hexByte, hexWord, decimal, commandText, nextText};
+ghost use Rattle.texts.specs.Texts.{done, served, block, packetNumbers, joined, spaced, fieldsOf, textOf, responseMeaning, inFront};
 ghost use Rattle.texts.specs.CodeShape.{Appended, spaceBefore};
 use blocks::Header;
 use commands::BlockKind;
@@ -25,7 +25,7 @@ pub enum Response {
     Three(usize, usize, usize),
     // An obeyed command: the words used, and what was done.
     Done(usize, Command),
-    // A served reply or time-up.
+    // A served reply or time-up; where the crate is not done, the bytes are the next frame.
     Served(Outcome),
     // 0, and this many bytes.
     Bytes(usize),
@@ -114,34 +114,6 @@ fn append_obeyed(text: &mut [u8; 2560], used: usize, command: Command) -> usize
     append_command(text, next + 1, command)
 }
 
-// " done" where the crate is done.
-fn append_done(text: &mut [u8; 2560], at: usize, done: bool) -> usize
-    requires { ⌜ at + 5 ≤ 2560 ⌝ }
-    ensures { λ r. ⌜ Appended (now (text .entry)) at (doneText done) 5 r (now (text .exit)) ⌝ }
-{
-    if done { append(text, at, b" done") } else { at }
-}
-
-// A served reply or time-up.
-fn append_served(text: &mut [u8; 2560], outcome: Outcome) -> usize
-    ensures { λ r. ⌜ Appended (now (text .entry)) 0 (spaced (fieldsOf (served outcome))) 13 r (now (text .exit)) ⌝ }
-{
-    match outcome {
-        Outcome::Good(done) => {
-            let next = append(text, 0, b"0 good");
-            append_done(text, next, done)
-        }
-        Outcome::Again(done) => {
-            let next = append(text, 0, b"0 again");
-            append_done(text, next, done)
-        }
-        Outcome::BoardFailed(done) => {
-            let next = append(text, 0, b"0 failed");
-            append_done(text, next, done)
-        }
-    }
-}
-
 // A hexadecimal digit, in capitals.
 fn hex_digit(d: u8) -> u8
     requires { ⌜ d < 16 ⌝ }
@@ -176,13 +148,14 @@ fn lesser(a: usize, b: usize) -> usize
     if a < b { a } else { b }
 }
 
-// 0, and as many of the bytes, or all.
-fn append_bytes(text: &mut [u8; 2560], bytes: &[u8], count: usize) -> usize
-    requires { ⌜ length (now bytes) ≤ 28 ⌝ }
-    ensures { λ r. ⌜ Appended (now (text .entry)) 0 (spaced (fieldsOf (inBytes (take count (now (bytes .entry)))))) 58 r (now (text .exit)) ⌝ }
+// As many of the bytes, or all.
+fn append_bytes(text: &mut [u8; 2560], at: usize, bytes: &[u8], count: usize) -> usize
+    requires { ⌜ at + 2 * length (now bytes) ≤ 2560 ⌝ }
+    ensures { λ r.
+        ⌜ Appended (now (text .entry)) at (joined hexByte (take count (now (bytes .entry)))) (2 * length (now (bytes .entry))) r (now (text .exit)) ⌝ }
 {
     let end = lesser(count, bytes.len());
-    let mut next = append(text, 0, b"0 ");
+    let mut next = at;
     let mut i = 0;
     while i < end {
         next = append_hex_byte(text, next, bytes[i]);
@@ -205,6 +178,39 @@ fn append_words(text: &mut [u8; 2560], at: usize, words: &[u16], count: usize) -
         place += 1;
     }
     next
+}
+
+// What follows an outcome: the next frame, or "done".
+fn append_next(text: &mut [u8; 2560], at: usize, done: bool, frame: &[u8]) -> usize
+    requires { ⌜ (at + 56 ≤ 2560) × (length (now frame) ≤ 28) ⌝ }
+    ensures { λ r. ⌜ Appended (now (text .entry)) at (nextText done (now (frame .entry))) 56 r (now (text .exit)) ⌝ }
+{
+    if done {
+        append(text, at, b"done")
+    } else {
+        append_bytes(text, at, frame, 28)
+    }
+}
+
+// A served reply or time-up, with the frame that is next unless the crate is done.
+fn append_served(text: &mut [u8; 2560], outcome: Outcome, frame: &[u8]) -> usize
+    requires { ⌜ length (now frame) ≤ 28 ⌝ }
+    ensures { λ r. ⌜ Appended (now (text .entry)) 0 (spaced (fieldsOf (served outcome (now (frame .entry))))) 65 r (now (text .exit)) ⌝ }
+{
+    match outcome {
+        Outcome::Good(done) => {
+            let at = append(text, 0, b"0 good ");
+            append_next(text, at, done, frame)
+        }
+        Outcome::Again(done) => {
+            let at = append(text, 0, b"0 again ");
+            append_next(text, at, done, frame)
+        }
+        Outcome::BoardFailed(done) => {
+            let at = append(text, 0, b"0 failed ");
+            append_next(text, at, done, frame)
+        }
+    }
 }
 
 // A flag as 0 or 1.
@@ -278,8 +284,11 @@ fn append_fields(
         Response::Two(a, b) => append_numbers(text, &[a, b]),
         Response::Three(a, b, c) => append_numbers(text, &[a, b, c]),
         Response::Done(used, command) => append_obeyed(text, used, command),
-        Response::Served(outcome) => append_served(text, outcome),
-        Response::Bytes(n) => append_bytes(text, bytes, n),
+        Response::Served(outcome) => append_served(text, outcome, bytes),
+        Response::Bytes(n) => {
+            let at = append(text, 0, b"0 ");
+            append_bytes(text, at, bytes, n)
+        }
         Response::Words(n) => {
             let at = append(text, 0, b"0 ");
             append_words(text, at, words, n)

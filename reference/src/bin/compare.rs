@@ -7,9 +7,10 @@ use std::process::ExitCode;
 use std::sync::Mutex;
 
 use reference::board::Mode;
-use reference::generate::{self, Generated, SCRIPTS};
+use reference::generate::{self, crate_in, Generated, SCRIPTS};
 use reference::other::{self, shown, Served};
 use reference::replay::MAX_DIGITS;
+use reference::{frames, CRATES};
 
 const SEED: u64 = 1;
 
@@ -47,15 +48,15 @@ const REACHABLE: &[&str] = &[
     "G 0",
     "G 15",
     "G 16",
-    "R good",
+    "R good frame",
     "R good done",
-    "R again",
-    "R failed",
+    "R again frame",
+    "R failed frame",
     "R failed done",
     "R 11",
     "R 12",
-    "T again",
-    "T failed",
+    "T again frame",
+    "T failed frame",
     "T failed done",
     "T 11",
     "T 12",
@@ -120,9 +121,26 @@ const RESETS: &[&str] = &[
     "C start after a reset refused with 9",
 ];
 
+/// Fetches of first frames by what came before them (02, d), beside their names
+/// in the first list. What was refused or counted is a reply or time-up, on the
+/// same crate and in this pass where nothing else is said. The refused one came
+/// before the pass; with 12, the counted one is the last, and a frame is
+/// outstanding.
+const FETCHES: &[&str] = &[
+    "F 0 a second time",
+    "F 0 after one refused with 12",
+    "F 0 after one counted in an earlier pass",
+    "F 0 after one counted on another crate",
+    "F 12 before any pass",
+    "F 12 without an active board",
+    "F 12 after a counted reply",
+    "F 12 after a counted time-up",
+    "F 12 once the crate is done",
+];
+
 /// Every answer that must be seen.
 fn listed() -> Vec<&'static str> {
-    [REACHABLE, FAR_END, OTHER_FORMS, RESETS].concat()
+    [REACHABLE, FAR_END, OTHER_FORMS, RESETS, FETCHES].concat()
 }
 
 /// The digits of the IDs of a write and a crate reset.
@@ -218,6 +236,89 @@ impl Past {
     }
 }
 
+/// What the names of `FETCHES` ask of the lines before, on one crate.
+#[derive(Clone, Copy, Default)]
+struct Bus {
+    /// The letter of the last counted line of this pass, and whether the crate
+    /// was done then.
+    counted: Option<(u8, bool)>,
+    /// A line was counted in an earlier pass.
+    counted_earlier: bool,
+    /// A reply or time-up was refused with 12 since the last counted one.
+    refused: bool,
+    /// The first frame was fetched in this pass.
+    fetched: bool,
+}
+
+/// The same on all crates.
+#[derive(Default)]
+struct Buses {
+    any_pass: bool,
+    buses: [Bus; CRATES],
+}
+
+impl Buses {
+    /// The names in `FETCHES` of an answer, given by its own name.
+    fn names(&self, line: &[u8], name: &str) -> Vec<&'static str> {
+        match name {
+            "F 0" => self.accepted_names(crate_in(line)),
+            "F 12" => vec![self.refused_name(crate_in(line))],
+            _ => vec![],
+        }
+    }
+
+    fn accepted_names(&self, crate_number: usize) -> Vec<&'static str> {
+        let bus = self.buses[crate_number];
+        let counted = |number: usize| self.buses[number].counted.is_some();
+        let elsewhere = (0..CRATES).any(|number| number != crate_number && counted(number));
+        let names = [
+            (bus.fetched, "F 0 a second time"),
+            (bus.refused, "F 0 after one refused with 12"),
+            (bus.counted_earlier, "F 0 after one counted in an earlier pass"),
+            (elsewhere, "F 0 after one counted on another crate"),
+            // In no list.
+            (counted(crate_number), "F 0 after one counted"),
+        ];
+        names.into_iter().filter_map(|(holds, name)| holds.then_some(name)).collect()
+    }
+
+    fn refused_name(&self, crate_number: usize) -> &'static str {
+        match self.buses[crate_number].counted {
+            None if !self.any_pass => "F 12 before any pass",
+            None => "F 12 without an active board",
+            Some((_, true)) => "F 12 once the crate is done",
+            Some((b'R', false)) => "F 12 after a counted reply",
+            Some((_, false)) => "F 12 after a counted time-up",
+        }
+    }
+
+    /// Adds the line that had this answer. All lines of a script come in turn.
+    fn add(&mut self, line: &[u8], name: &str) {
+        match name {
+            "P 0" => *self = Buses::default(),
+            "C 441 write" | "C 5 ping" => self.begin_pass(),
+            "F 0" => self.buses[crate_in(line)].fetched = true,
+            "R 11" | "T 11" => {}
+            "R 12" | "T 12" => self.buses[crate_in(line)].refused = true,
+            _ if name.starts_with(['R', 'T']) => {
+                let bus = &mut self.buses[crate_in(line)];
+                bus.counted = Some((line[0], name.ends_with("done")));
+                bus.refused = false;
+            }
+            _ => {}
+        }
+    }
+
+    fn begin_pass(&mut self) {
+        self.any_pass = true;
+        for bus in &mut self.buses {
+            bus.counted_earlier |= bus.counted.is_some();
+            bus.counted = None;
+            bus.fetched = false;
+        }
+    }
+}
+
 fn mode_name(mode: Mode) -> &'static str {
     match mode {
         Mode::Idle => "idle",
@@ -241,8 +342,17 @@ fn name(line: &[u8], answer: &[u8]) -> String {
     let (number, rest) = answer.split_once(' ').unwrap_or((&answer, ""));
     let asked = asked(line, number == "0");
     match (line[0], number) {
-        (b'C' | b'R' | b'T', "0") => format!("{asked} {rest}"),
+        (b'C', "0") => format!("{asked} {rest}"),
+        (b'R' | b'T', "0") => format!("{asked} {}", outcome(rest)),
         _ => format!("{asked} {number}"),
+    }
+}
+
+/// The answer to a reply or a time-up, with `frame` for the digits of one.
+fn outcome(answer: &str) -> String {
+    match answer.split_once(' ') {
+        Some((outcome, digits)) if digits.len() == 2 * frames::BYTES => format!("{outcome} frame"),
+        _ => answer.to_string(),
     }
 }
 
@@ -287,19 +397,23 @@ fn other_form(line: &[u8]) -> Option<&'static str> {
     }
 }
 
-/// The name of each answer to a script's lines, and its names in `RESETS`.
+/// The name of each answer to a script's lines, and its names in `RESETS` and
+/// `FETCHES`.
 fn names<'a>(
     script_lines: &'a [&[u8]],
     answers: &'a [&[u8]],
     served: &'a [Served],
 ) -> impl Iterator<Item = (String, Vec<String>)> + 'a {
     let mut past = Past::default();
+    let mut buses = Buses::default();
     answers.iter().zip(served).map(move |(answer, &Served { number, mode, fresh })| {
         let line = script_lines[number];
         let name = name(line, answer);
-        let reset_names = past.names(line, &name, mode, fresh);
+        let mut others = past.names(line, &name, mode, fresh);
+        others.extend(buses.names(line, &name).into_iter().map(String::from));
         past.add(line, &name, fresh);
-        (name, reset_names)
+        buses.add(line, &name);
+        (name, others)
     })
 }
 
@@ -310,8 +424,8 @@ fn compare(program: &str, script: &[u8], seen: &Mutex<Seen>) -> Result<usize, St
     let script_lines = other::lines(script);
     let ours = other::lines(&printed);
     let mut counts = Seen::new();
-    for (name, reset_names) in names(&script_lines, &ours, &served) {
-        for name in reset_names.into_iter().chain([name]) {
+    for (name, others) in names(&script_lines, &ours, &served) {
+        for name in others.into_iter().chain([name]) {
             *counts.entry(name).or_default() += 1;
         }
     }
@@ -420,6 +534,9 @@ mod tests {
             ("T 04", "11", "T 11"),
             ("C", "1 0", "C 1"),
             ("R00", "0 good done", "R good done"),
+            ("T 00", &format!("0 again {}", "0".repeat(56)), "T again frame"),
+            ("R00", &format!("0 good {}", "0".repeat(54)), &format!("R good {}", "0".repeat(54))),
+            ("F 00", &format!("0 {}", "0".repeat(56)), "F 0"),
             ("W 0 2", "8 435", "W02 8"),
             ("W01 02", "0 00400001000200000000", "W0102 0"),
             ("W04", "0 00400004000100000000", "W04 0"),
@@ -468,13 +585,14 @@ mod tests {
         (0..4).map(|crate_number| format!("T0{crate_number}\n").repeat(30)).collect()
     }
 
-    /// Checks for each row which names in `RESETS` its lines have, in turn.
+    /// Checks for each row which names in `RESETS` and `FETCHES` its lines have, in
+    /// turn.
     fn check_names(rows: &[(&[&str], &[&str])]) {
         for (number, (row, expected)) in rows.iter().enumerate() {
             let script = row.concat();
             let (printed, served) = other::model(script.as_bytes());
             let (lines, answers) = (other::lines(script.as_bytes()), other::lines(&printed));
-            let found = names(&lines, &answers, &served).flat_map(|(_, reset_names)| reset_names);
+            let found = names(&lines, &answers, &served).flat_map(|(_, others)| others);
             assert_eq!(found.collect::<Vec<_>>(), *expected, "row {number}");
         }
     }
@@ -580,6 +698,35 @@ mod tests {
     }
 
     #[test]
+    fn names_of_fetches() {
+        let write: &str = &write_line("0001");
+        let (before, inactive) = ("F 12 before any pass", "F 12 without an active board");
+        let (second, done) = ("F 0 a second time", "F 12 once the crate is done");
+        let after_time_up = "F 12 after a counted time-up";
+        let elsewhere = "F 0 after one counted on another crate";
+        let earlier = "F 0 after one counted in an earlier pass";
+        check_names(&[
+            (
+                &["F00\nF04\nT04\n", write, "F 00\nF03\nF03\nF03\n"],
+                &[before, inactive, second, second],
+            ),
+            (&[write, "R03\nF 0 3\nT03\nF03\n"], &["F 12 after a counted reply", after_time_up]),
+            (&[write, "T03\nT03\nT03\nF03\n", PING, "F03\nF00\n"], &[done, earlier]),
+            (&[write, "T03\nT03\nR03\nF03\n"], &[done]),
+            (
+                &[PING, "F01\nT00\nF00\nF01\nT0x\nF02\n"],
+                &[after_time_up, second, elsewhere, elsewhere],
+            ),
+            (&["T00\nR01\n", PING, "F00\nF01\nF02\n"], &["F 0 after one refused with 12"; 2]),
+            (
+                &["F00\n", PING, "F00\nT00\n", &time_ups(), PING, "F00\n"],
+                &[before, "F 0 after one refused with 12", earlier],
+            ),
+            (&[PING, "F00\nT00\nP0000000000000000 0000\nF00\n", PING, "F00\n"], &[before]),
+        ]);
+    }
+
+    #[test]
     fn answers_are_those_listed() {
         let listed = listed();
         let seen: Seen = listed.iter().map(|name| (name.to_string(), 1)).collect();
@@ -590,7 +737,15 @@ mod tests {
             fewer.remove(name);
             assert!(!check_seen(&fewer), "without {name}");
         }
-        for name in ["G 17", "W04 0 0", "Y03 8", "R again done", "C 10 while fresh"] {
+        for name in [
+            "G 17",
+            "W04 0 0",
+            "Y03 8",
+            "R again done",
+            "T good frame",
+            "C 10 while fresh",
+            "F 0 after one counted",
+        ] {
             let mut more = seen.clone();
             more.insert(name.to_string(), 1);
             assert!(!check_seen(&more), "with {name}");

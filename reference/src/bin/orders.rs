@@ -1,5 +1,5 @@
 //! Serves each random pass in a mixed order and crate by crate, in another
-//! replay program and in the model, and compares (01, demand 3):
+//! replay program and in the model, and compares (01, demand 3; 02, d):
 //! `orders PATH-TO-OTHER-REPLAY [PASSES [SEED]]`.
 
 use std::process::ExitCode;
@@ -9,8 +9,8 @@ use reference::other::{self, shown, Compared};
 
 const PASSES: usize = 500;
 const SEED: u64 = 1;
-/// Lines for each item: itself, the frame and the number of its crate.
-const PER_ITEM: usize = 3;
+/// Lines for each item: itself and the number of frames on its crate.
+const PER_ITEM: usize = 2;
 
 /// The script of a pass with its items in this order.
 fn script(pass: &Pass, order: &[&Item]) -> Vec<u8> {
@@ -22,7 +22,6 @@ fn script(pass: &Pass, order: &[&Item]) -> Vec<u8> {
     pass.before.iter().for_each(|line| push(line));
     for item in order {
         push(&item.line());
-        push(&bytes_line(b'F', &[item.crate_number]));
         push(&bytes_line(b'N', &[item.crate_number]));
     }
     pass.after.iter().for_each(|line| push(line));
@@ -159,4 +158,65 @@ fn main() -> ExitCode {
     }
     println!("{served} passes in two orders, {lines} lines: all agree");
     ExitCode::SUCCESS
+}
+
+#[cfg(test)]
+mod tests {
+    use reference::board::{Answer, Board};
+    use reference::generate::{ItemKind, Random};
+    use reference::replay::Replay;
+    use reference::Refusal;
+
+    use super::*;
+
+    /// What an item got, an accepted fetch no answer, and what its bytes then held.
+    type Got = (Result<Option<Answer>, Refusal>, Vec<u8>);
+
+    /// The model's board as the pass begins.
+    fn begun(pass: &Pass) -> Board {
+        let mut replay = Replay::new();
+        for line in &pass.before {
+            replay.line(line, &mut Vec::new());
+        }
+        replay.board().clone()
+    }
+
+    /// Serves the items, each with the bytes it lends; gives what those of each
+    /// crate got, and the board after them.
+    fn serve_on(mut board: Board, items: &[(&Item, Vec<u8>)]) -> ([Vec<Got>; 5], Board) {
+        let mut crates: [Vec<Got>; 5] = Default::default();
+        for (item, lent) in items {
+            let (number, mut lent) = (item.crate_number, lent.clone());
+            let result = match &item.kind {
+                ItemKind::Reply(bytes) => board.reply(number, bytes, &mut lent).map(Some),
+                ItemKind::TimeUp => board.time_up(number, &mut lent).map(Some),
+                ItemKind::FirstFrame => board.first_frame(number, &mut lent).map(|()| None),
+            };
+            crates[usize::from(group(item))].push((result, lent));
+        }
+        (crates, board)
+    }
+
+    /// A replay program always lends 28 bytes; the model is asked with other
+    /// numbers of them too.
+    #[test]
+    fn lent_bytes_of_any_number() {
+        let mut random = Random::new(4);
+        let mut lent = |fewest: usize, numbers: usize| -> Vec<u8> {
+            (0..fewest + random.below(numbers)).map(|_| random.byte()).collect()
+        };
+        for number in 0..100 {
+            let pass = generate::pass(4, number);
+            // Every item twice: too few bytes refuse it the first time, so that the
+            // replies still suit the frames.
+            let mut items = Vec::new();
+            for item in &pass.items {
+                items.push((item, lent(0, 28)));
+                items.push((item, lent(28, 20)));
+            }
+            let mixed = serve_on(begun(&pass), &items);
+            items.sort_by_key(|(item, _)| group(item));
+            assert_eq!(mixed, serve_on(begun(&pass), &items), "pass {number}");
+        }
+    }
 }

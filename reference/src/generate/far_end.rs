@@ -175,7 +175,7 @@ fn damage_packet(random: &mut Random, packet: &mut Vec<u8>) {
     }
 }
 
-fn bytes_of(digits: &[u8]) -> Vec<u8> {
+pub(super) fn bytes_of(digits: &[u8]) -> Vec<u8> {
     let value = |digit: u8| char::from(digit).to_digit(16).expect("a hexadecimal digit") as u8;
     digits.chunks_exact(2).map(|pair| value(pair[0]) << 4 | value(pair[1])).collect()
 }

@@ -10,33 +10,30 @@ other-form-requires : tie.Need-other-form-requires
 other-form-requires c κs = search needs
 
 returns : tie.Need-returns
-returns c = let a = c .before .before .before .args in no-reply (a .board) _ (c .other-form .ensures) (now (a .bytes)) (c .before .if1 .taken)
+returns c =
+    let a = c .before .before .before .args in
+    no-reply (a .board) _ (c .other-form .ensures) _ (now (a .bytes)) (c .before .if1 .taken)
 
-shared-slice-read-reply : tie.Need-shared-slice-read-reply
-shared-slice-read-reply c = search needs
+shared-slice-read-event-order : tie.Need-shared-slice-read-event-order
+shared-slice-read-event-order c = search needs
 
-sub-reply : tie.Need-sub-reply
-sub-reply c = search needs
+sub-event-order : tie.Need-sub-event-order
+sub-event-order c = search needs
 
-part-reply-start : tie.Need-part-reply-start
-part-reply-start c = search needs
+part-event-order-start : tie.Need-part-event-order-start
+part-event-order-start c = search needs
 
-part-reply-end : tie.Need-part-reply-end
-part-reply-end c = search needs
+part-event-order-end : tie.Need-part-event-order-end
+part-event-order-end c = search needs
 
-reply-requires : tie.Need-reply-requires
-reply-requires c κs = search needs
-
-outcome-response-requires : tie.Need-outcome-response-requires
-outcome-response-requires c κs = search needs
+event-order-requires : tie.Need-event-order-requires
+event-order-requires c κs = search needs
 
 returns-2 : tie.Need-returns-2
 returns-2 c =
-    let at-reply = c .before .before in
-    let at-length = at-reply .before .before .before in
+    let at-length = c .before .before .before .before in
     let a = at-length .before .before .args in
-    replied (a .board) (c .outcome-response .result) (at-reply .reply .result) (c .outcome-response .ensures)
-    (now (a .bytes)) _ (at-length .if1 .left) (part-rest (now (a .bytes)) 1) (at-reply .reply .ensures)
+    replied (a .board) (now (a .bytes)) _ _ _ (at-length .if1 .left) (part-rest (now (a .bytes)) 1) (c .event-order .ensures)
 
 pub reply-order-spec : {M : Type 1} → statement M
 reply-order-spec =
@@ -44,10 +41,9 @@ reply-order-spec =
     (tie.spec
     other-form-requires
     returns
-    shared-slice-read-reply
-    sub-reply
-    part-reply-start
-    part-reply-end
-    reply-requires
-    outcome-response-requires
+    shared-slice-read-event-order
+    sub-event-order
+    part-event-order-start
+    part-event-order-end
+    event-order-requires
     returns-2)

@@ -52,15 +52,15 @@ returns-4 c =
 
 returns-5 : tie.Need-returns-5
 returns-5 c =
-    let at-letter = c .before in
+    let at-letter = c .before .before in
     let a = at-letter .before .before .args in
-    ordered-as (a .board) _ _ (orders-R (a .letter) (now (a .bytes)) (at-letter .match .keys5)) _ _ _ (c .reply-order .ensures)
+    ordered-in-bytes-as (a .board) _ _ (orders-R (a .letter) (now (a .bytes)) (at-letter .match .keys5)) _ _ _ (c .reply-order .ensures)
 
 returns-6 : tie.Need-returns-6
 returns-6 c =
-    let at-letter = c .before in
+    let at-letter = c .before .before in
     let a = at-letter .before .before .args in
-    ordered-as (a .board) _ _ (orders-T (a .letter) (now (a .bytes)) (at-letter .match .keys6)) _ _ _ (c .time-up-order .ensures)
+    ordered-in-bytes-as (a .board) _ _ (orders-T (a .letter) (now (a .bytes)) (at-letter .match .keys6)) _ _ _ (c .time-up-order .ensures)
 
 returns-7 : tie.Need-returns-7
 returns-7 c =

@@ -1,7 +1,7 @@
 -- `exchange::time_up_order` meets its contract. Assumes nothing.
 use denote.Ref.{now}
 use borrow.Author.Tests.{ne-eqb}
-use Rattle.exchange.proofs.Changing.{unserved, timed-up}
+use Rattle.exchange.proofs.Changing.{unserved-in-bytes, timed-up}
 use borrow.Author.Needs.{needs}
 use Rattle.exchange.proofs.time_up_order.Statement.{statement}
 use Rattle.exchange.proofs.time_up_order.Tie as tie
@@ -10,26 +10,38 @@ other-form-requires : tie.Need-other-form-requires
 other-form-requires c κs = search needs
 
 returns : tie.Need-returns
-returns c = unserved _ _ (c .other-form .ensures) _ _ (ne-eqb _ _ (c .before .if1 .taken))
+returns c = unserved-in-bytes _ _ (c .other-form .ensures) _ _ _ (ne-eqb _ _ (c .before .if1 .taken))
 
-shared-slice-read-time-up : tie.Need-shared-slice-read-time-up
-shared-slice-read-time-up c = search needs
+shared-slice-read-event-order : tie.Need-shared-slice-read-event-order
+shared-slice-read-event-order c = search needs
 
-time-up-requires : tie.Need-time-up-requires
-time-up-requires c κs = search needs
+sub-event-order : tie.Need-sub-event-order
+sub-event-order c = search needs
 
-outcome-response-requires : tie.Need-outcome-response-requires
-outcome-response-requires c κs = search needs
+part-event-order-start : tie.Need-part-event-order-start
+part-event-order-start c = search needs
+
+part-event-order-end : tie.Need-part-event-order-end
+part-event-order-end c = search needs
+
+event-order-requires : tie.Need-event-order-requires
+event-order-requires c κs = search needs
 
 returns-2 : tie.Need-returns-2
 returns-2 c =
-    let at-time-up = c .before .before in
-    let at-length = at-time-up .before .before in
+    let at-length = c .before .before .before .before in
     let a = at-length .before .before .args in
-    timed-up (a .board) (c .outcome-response .result) (at-time-up .time-up .result) (c .outcome-response .ensures)
-    (now (a .bytes)) (at-length .if1 .left) (at-time-up .time-up .ensures)
+    timed-up (a .board) (now (a .bytes)) _ _ (at-length .if1 .left) (c .event-order .ensures)
 
 pub time-up-order-spec : {M : Type 1} → statement M
 time-up-order-spec =
     tie.close
-    (tie.spec other-form-requires returns shared-slice-read-time-up time-up-requires outcome-response-requires returns-2)
+    (tie.spec
+    other-form-requires
+    returns
+    shared-slice-read-event-order
+    sub-event-order
+    part-event-order-start
+    part-event-order-end
+    event-order-requires
+    returns-2)

@@ -1,7 +1,8 @@
 -- `exchange::trigger_order` meets its contract. Assumes nothing.
+use mathlib.Core.Path.{sym, _∙_}
 use denote.Ref.{now}
 use Rattle.exchange.proofs.Fields.{eight}
-use Rattle.exchange.proofs.Changing.{no-trigger, triggered}
+use Rattle.exchange.proofs.Changing.{unserved-in-bytes, triggered}
 use borrow.Author.Needs.{needs}
 use Rattle.exchange.proofs.trigger_order.Statement.{statement}
 use Rattle.exchange.proofs.trigger_order.Tie as tie
@@ -38,10 +39,7 @@ other-form-requires c κs = search needs
 returns-2 : tie.Need-returns-2
 returns-2 c =
     let tested = c .before in
-    let judged = tested .before in
-    let a = judged .before .before .args in
-    no-trigger (a .board) _ (c .other-form .ensures) (now (a .bytes)) _
-    (judged .are-fields .result) (judged .are-fields .ensures) (tested .if1 .left)
+    unserved-in-bytes _ _ (c .other-form .ensures) _ _ _ (sym (tested .before .are-fields .ensures) ∙ tested .if1 .left)
 
 pub trigger-order-spec : {M : Type 1} → statement M
 trigger-order-spec =

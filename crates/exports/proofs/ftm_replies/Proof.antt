@@ -1,7 +1,7 @@
 -- `exports::ftm_replies` meets its contract. Assumes nothing.
 use Rattle.call_refusals.proofs.Numbers.{room-one}
-use Rattle.exports.proofs.Refusing.{gives-refused, gives-count}
-use Rattle.exports.proofs.AfterOne.{pass-on-board, pass-refused}
+use Rattle.exports.proofs.Refusing.{items-refused, items-counted}
+use Rattle.exports.proofs.AfterOne.{counted-after, pass-refused}
 use borrow.Author.Needs.{needs}
 use Rattle.exports.proofs.ftm_replies.Statement.{statement}
 use Rattle.exports.proofs.ftm_replies.Tie as tie
@@ -17,14 +17,14 @@ returns c =
     let at-refusal = c .before in
     let at-obeyed = at-refusal .before in
     let refusal = pass-refused _ (at-obeyed .obey-series .result) (at-obeyed .obey-series .ensures) _ _ _ (at-refusal .pass-refusal .ensures) in
-    gives-refused _ _ _ _ refusal (c .if1 .taken)
+    items-refused _ _ _ _ _ _ _ refusal (c .if1 .taken)
 
-good-on-board-requires : tie.Need-good-on-board-requires
-good-on-board-requires c κs = search needs
+count-on-board-requires : tie.Need-count-on-board-requires
+count-on-board-requires c κs = search needs
 
 slice-write-good : tie.Need-slice-write-good
 slice-write-good c =
-    let at-if = c .before .before in
+    let at-if = c .before .before .before .before .before in
     let at-refusal = at-if .before in
     let at-obeyed = at-refusal .before in
     let refusal = pass-refused _ (at-obeyed .obey-series .result) (at-obeyed .obey-series .ensures) _ _ _ (at-refusal .pass-refusal .ensures) in
@@ -34,14 +34,18 @@ slice-write-good c =
 same-length : tie.Need-same-length
 same-length c = search needs
 
+same-length-2 : tie.Need-same-length-2
+same-length-2 c = search needs
+
 returns-2 : tie.Need-returns-2
 returns-2 c =
-    let at-if = c .before .before in
+    let at-counted = c .before .before in
+    let at-if = at-counted .before .before .before in
     let at-refusal = at-if .before in
     let at-obeyed = at-refusal .before in
     let refusal = pass-refused _ (at-obeyed .obey-series .result) (at-obeyed .obey-series .ensures) _ _ _ (at-refusal .pass-refusal .ensures) in
-    let good = pass-on-board _ (at-obeyed .obey-series .result) (at-obeyed .obey-series .ensures) _ _ (c .good-on-board .ensures) in
-    gives-count _ _ _ _ refusal (at-if .if1 .left) _ good
+    let counted = counted-after _ (at-obeyed .obey-series .result) (at-obeyed .obey-series .ensures) _ _ _ _ _ (at-counted .count-on-board .ensures) in
+    items-counted _ _ _ _ _ _ _ refusal (at-if .if1 .left) _ _ counted
 
 pub ftm-replies-spec : {M : Type 1} → statement M
 ftm-replies-spec =
@@ -50,7 +54,8 @@ ftm-replies-spec =
     obey-series-requires
     pass-refusal-requires
     returns
-    good-on-board-requires
+    count-on-board-requires
     slice-write-good
     same-length
+    same-length-2
     returns-2)

@@ -14,10 +14,10 @@ refusal-response-requires : tie.Need-refusal-response-requires
 refusal-response-requires c κs = search needs
 
 returns : tie.Need-returns
-returns c bytes words = rw (c .before .answer .given .1) refl
+returns c = rw (c .before .answer .given .1) (λ bytes words. refl)
 
 returns-2 : tie.Need-returns-2
-returns-2 c bytes words = rw (c .before .before .answer2 .given .1) (c .refusal-response .ensures bytes words)
+returns-2 c = rw (c .before .before .answer2 .given .1) (c .refusal-response .ensures)
 
 pub outcome-response-spec : {M : Type 1} → statement M
 outcome-response-spec =

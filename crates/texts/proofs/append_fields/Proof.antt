@@ -1,10 +1,14 @@
 -- `texts::append_fields` meets its contract. Assumes nothing.
 use Prim.Native.Nat.{ℕ, _≤_}
-use mathlib.Core.Path.{_≡_, ap}
-use mathlib.Core.List.{List}
+use mathlib.Core.Path.{_≡_, refl, ap}
+use mathlib.Core.Bool.{Bool, true, false, cond}
+use mathlib.Core.List.{List, [], _∷_}
 use lib.ListN.{length}
 use denote.Ref.{now}
-use Rattle.texts.specs.Texts.{spaced, fieldsOf, responseMeaning}
+use Rattle.crate_pass.specs.Crate.{saysDone}
+use Rattle.crate_pass.specs.declared.Outcome.{Outcome}
+use Rattle.texts.specs.Characters.{ascii}
+use Rattle.texts.specs.Texts.{outcomeText, nextText, nextFrame, served, spaced, fieldsOf, responseMeaning}
 use Rattle.texts.specs.CodeShape.{Appended}
 use Rattle.texts.specs.declared.Response.{Response}
 use Rattle.texts.proofs.Laws.{both, within}
@@ -18,6 +22,14 @@ shown : {d e : List ℕ} {s t : Response} {m next : ℕ} (bytes words : List ℕ
     → Appended d 0 (spaced (fieldsOf (responseMeaning t bytes words))) m next e
     → Appended d 0 (spaced (fieldsOf (responseMeaning s bytes words))) 2058 next e
 shown bytes words h k p = within (ap (λ (s : Response). spaced (fieldsOf (responseMeaning s bytes words))) h) k p
+
+-- where the crate is done, the bytes are not printed
+next-unless : (done : Bool) (bytes : List ℕ) → nextText done (cond done [] bytes) ≡ nextText done bytes
+next-unless true bytes = refl
+next-unless false bytes = refl
+
+served-in : (o : Outcome) (bytes : List ℕ) → spaced (fieldsOf (served o (nextFrame o bytes))) ≡ spaced (fieldsOf (served o bytes))
+served-in o bytes = ap (λ (next : List ℕ). spaced (ascii "0" ∷ outcomeText o ∷ next ∷ [])) (next-unless (saysDone o) bytes)
 
 enum-told : tie.Need-enum-told
 enum-told c = search needs
@@ -70,17 +82,23 @@ append-served-requires c κs = search needs
 enum-known-response-6 : tie.Need-enum-known-response-6
 enum-known-response-6 c = search needs
 
+slice-aggregate-append-2 : tie.Need-slice-aggregate-append-2
+slice-aggregate-append-2 c = search needs
+
+append-requires-2 : tie.Need-append-requires-2
+append-requires-2 c κs = search needs
+
 append-bytes-requires : tie.Need-append-bytes-requires
 append-bytes-requires c κs = search needs
 
 enum-known-response-7 : tie.Need-enum-known-response-7
 enum-known-response-7 c = search needs
 
-slice-aggregate-append-2 : tie.Need-slice-aggregate-append-2
-slice-aggregate-append-2 c = search needs
+slice-aggregate-append-3 : tie.Need-slice-aggregate-append-3
+slice-aggregate-append-3 c = search needs
 
-append-requires-2 : tie.Need-append-requires-2
-append-requires-2 c κs = search needs
+append-requires-3 : tie.Need-append-requires-3
+append-requires-3 c κs = search needs
 
 append-words-requires : tie.Need-append-words-requires
 append-words-requires c κs = search needs
@@ -129,15 +147,18 @@ returns-5 c =
 
 returns-6 : tie.Need-returns-6
 returns-6 c =
-    let told = c .before .before .before in
+    let told = c .before .before .before .before in
     let a = told .before .before .args in
-    shown (now (a .bytes)) (now (a .words)) (told .response5 .given .1) (omega arith) (c .append-served .ensures)
+    shown {m = 65} (now (a .bytes)) (now (a .words)) (told .response5 .given .1) (omega arith)
+    (within (served-in (told .response5 .given .0 .0) (now (a .bytes))) (omega arith) (c .append-served .ensures))
 
 returns-7 : tie.Need-returns-7
 returns-7 c =
-    let told = c .before .before .before .before in
+    let at-append = c .before .before .before in
+    let told = at-append .before .before .before .before in
     let a = told .before .before .args in
-    shown (now (a .bytes)) (now (a .words)) (told .response6 .given .1) (omega arith) (c .append-bytes .ensures)
+    let l : length (now (a .bytes)) ≡ 28 = search needs in
+    shown (now (a .bytes)) (now (a .words)) (told .response6 .given .1) (omega (arith, l)) (both (at-append .append2 .ensures) (c .append-bytes .ensures))
 
 returns-8 : tie.Need-returns-8
 returns-8 c =
@@ -145,7 +166,7 @@ returns-8 c =
     let told = at-append .before .before .before .before in
     let a = told .before .before .args in
     let l : length (now (a .words)) ≡ 498 = search needs in
-    shown (now (a .bytes)) (now (a .words)) (told .response7 .given .1) (omega (arith, l)) (both (at-append .append2 .ensures) (c .append-words .ensures))
+    shown (now (a .bytes)) (now (a .words)) (told .response7 .given .1) (omega (arith, l)) (both (at-append .append3 .ensures) (c .append-words .ensures))
 
 returns-9 : tie.Need-returns-9
 returns-9 c =
@@ -180,10 +201,12 @@ append-fields-spec =
     enum-known-response-5
     append-served-requires
     enum-known-response-6
-    append-bytes-requires
-    enum-known-response-7
     slice-aggregate-append-2
     append-requires-2
+    append-bytes-requires
+    enum-known-response-7
+    slice-aggregate-append-3
+    append-requires-3
     append-words-requires
     enum-known-response-8
     append-packet-requires

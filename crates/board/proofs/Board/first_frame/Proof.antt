@@ -1,13 +1,13 @@
--- `board::Board::outstanding_frame` meets its contract. Assumes nothing.
+-- `board::Board::first_frame` meets its contract. Assumes nothing.
 use Rattle.board.proofs.Serving.{fetched, fetch-refused}
-use Rattle.four_crates.specs.FourCrates.{outstandingMeaning}
+use Rattle.four_crates.specs.FourCrates.{firstMeaning}
 use mathlib.Core.Path.{sym, ap, _∙_}
 use borrow.Author.Needs.{needs}
-use Rattle.board.proofs.Board.outstanding_frame.Statement.{statement}
-use Rattle.board.proofs.Board.outstanding_frame.Tie as tie
+use Rattle.board.proofs.Board.first_frame.Statement.{statement}
+use Rattle.board.proofs.Board.first_frame.Tie as tie
 
-outstanding-on-requires : tie.Need-outstanding-on-requires
-outstanding-on-requires c κs = search needs
+first-on-requires : tie.Need-first-on-requires
+first-on-requires c κs = search needs
 
 enum-known-board : tie.Need-enum-known-board
 enum-known-board c = search needs
@@ -33,7 +33,7 @@ returns c =
     let found = framed .before .before .before in
     let asked = found .before .before in
     let entry = asked .before .before .before .before in
-    fetched (entry .args .self) (entry .args .index) _ _ (sym (ap outstandingMeaning (found .board .given .1)) ∙ asked .outstanding-on .ensures) _ _ _ _
+    fetched (entry .args .self) (entry .args .index) _ _ (sym (ap firstMeaning (found .board .given .1)) ∙ asked .first-on .ensures) _ _ _ _
     (framed .step-frame .ensures)
     (c .before .before .write-frame .ensures)
 
@@ -41,13 +41,13 @@ returns-2 : tie.Need-returns-2
 returns-2 c =
     let asked = c .before .before .before in
     let entry = asked .before .before .before .before in
-    fetch-refused (entry .args .self) (entry .args .index) _ (sym (ap outstandingMeaning (c .before .r .given .1)) ∙ asked .outstanding-on .ensures) _
+    fetch-refused (entry .args .self) (entry .args .index) _ (sym (ap firstMeaning (c .before .r .given .1)) ∙ asked .first-on .ensures) _
 
-pub outstanding-frame-spec : {M : Type 1} → statement M
-outstanding-frame-spec =
+pub first-frame-spec : {M : Type 1} → statement M
+first-frame-spec =
     tie.close
     (tie.spec
-    outstanding-on-requires
+    first-on-requires
     enum-known-board
     slice-aggregate-step-frame
     step-frame-requires
