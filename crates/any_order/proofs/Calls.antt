@@ -31,7 +31,8 @@ module _ (β : Board) (c : ℕ) where
   answer-is fetch lent (replied r) after k = absurd k
   answer-is fetch lent (fetched r) after k = ap firstGiven (k .answer)
 
-  bytes-are : (request : Request) (lent : List ℕ) (r : Returned) (after : List ℕ) → Keeps β c request lent r after → after ≡ bytesFor β c request lent
+  bytes-are : (request : Request) (lent : List ℕ) (r : Returned) (after : List ℕ) → Keeps β c request lent r after
+      → after ≡ bytesFor β c request lent
   bytes-are (handIn (reply bytes)) lent (replied r) after k = k .bytes
   bytes-are (handIn timeUp) lent (replied r) after k = k .bytes
   bytes-are (handIn e) lent (fetched r) after k = absurd k

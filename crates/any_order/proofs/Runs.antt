@@ -207,7 +207,8 @@ module _ (block : List ℕ) (c : ℕ) where
   list-by k (handIn e) lent f = entries-stay Reprogramming (activeWord block c) k (said Reprogramming block c k e) lent (no-ping (f .code))
   list-by k fetch lent f = refl
 
-  pub run-list : (k : Crate) (xs : List Item) → Fit Reprogramming k → entriesIn (endAlone noCrate (crateStep Reprogramming block) noSuch c k xs) ≡ entriesIn k
+  pub run-list : (k : Crate) (xs : List Item) → Fit Reprogramming k
+      → entriesIn (endAlone noCrate (crateStep Reprogramming block) noSuch c k xs) ≡ entriesIn k
   unfolding endAlone crateStep
   run-list k [] f = refl
   run-list k (x ∷ xs) f =

@@ -87,7 +87,8 @@ pub record NothingLost (β : Board) : Type 0 where
   pub trigger : (f : Fields) (out after : List ℕ) (t : TriggerResult) → TriggersOn β f out t after → (n p : ℕ) → writtenMeaning (t .answer) ≡ refused n p
       → (t .board ≡ β) × (after ≡ out)
   -- a reply or a time-up
-  pub reply : (i : ℕ) (h : Judged) (lent after : List ℕ) (r : ReplyResult) → Replies β i h lent r after → (n p : ℕ) → replyMeaning (r .answer) ≡ refused n p
+  pub reply : (i : ℕ) (h : Judged) (lent after : List ℕ) (r : ReplyResult) → Replies β i h lent r after → (n p : ℕ)
+      → replyMeaning (r .answer) ≡ refused n p
       → (r .board ≡ β) × (after ≡ lent)
   -- the first frame, and the four blocks
   pub frame : (i : ℕ) → KeepsOutput (Fetches β i)

@@ -43,7 +43,8 @@ module _ (β : Board) (i : ℕ) where
     frame-of = ap (λ (s : ℕ × ℕ). stepFrame (β .block) i (s .0) (s .1)) (sym same-step)
 
     -- it is written under the rows 11 and 12, neither of which applies
-    pub fetched : (frame out after : List ℕ) (r : Written) → frame ≡ stepFrame (β .block) i b code → Wrote [] frame out r after → Fetches β i out r after
+    pub fetched : (frame out after : List ℕ) (r : Written) → frame ≡ stepFrame (β .block) i b code
+        → Wrote [] frame out r after → Fetches β i out r after
     unfolding firstAnswer
     fetched frame out after r q w =
         wrote-under (fetchRules β i) (frameAt β i) out r after (given-clear (fetchRules β i) _ (b, code) (sym e))
@@ -144,7 +145,8 @@ module _ (β : Board) (i : ℕ) where
 
       -- the crate j was asked: the one of that number, or the last where there is none
       pub replies-at : (g : Judged) (r : CrateResult) (after : List ℕ) → Serves (β .kind) w (β .block) i k g lent r after
-          → (j : ℕ) → (i ≡ j) ⊎ (3 < i) → j ≤ 3 → k ≡ crateAt β j → (k ≡ crateAt β i → g ≡ h) → (i ≤ 3 → w ≡ activeWord (β .block) i)
+          → (j : ℕ) → (i ≡ j) ⊎ (3 < i) → j ≤ 3 → k ≡ crateAt β j → (k ≡ crateAt β i → g ≡ h)
+          → (i ≤ 3 → w ≡ activeWord (β .block) i)
           → Replies β i h lent (record { board = withCrates β (set (β .crates) j (r .state)); answer = r .answer }) after
       replies-at g r after s j (inl e) l ek eg ew =
           let own : k ≡ crateAt β i = ek ∙ ap (crateAt β) (sym e) in replies-own g r after s j e l own (eg own) ew

@@ -55,7 +55,8 @@ module _ (kind : PassKind) (w : ℕ) (k : Crate) (h : Judged) where
     unfolding placeAfter nextPlace afterGoodReply stepped withEntry withEntryIn advanced placed
     moved-noted m em g q = rw (em, en, et) (rw (g, q) refl)
 
-    pub moved-good : h .good ≡ true → (k .code ≡ 4 → ⊥) → movedWith Good (crateWith (k .dna) (k .calls) (k .«crc_errors») (k .failed)) ≡ moved kind w k h
+    pub moved-good : h .good ≡ true → (k .code ≡ 4 → ⊥)
+        → movedWith Good (crateWith (k .dna) (k .calls) (k .«crc_errors») (k .failed)) ≡ moved kind w k h
     unfolding placeAfter nextPlace afterGoodReply stepped withEntry withEntryIn advanced placed
     moved-good g q = go (ltb (k .code) 3) refl
       where
@@ -64,7 +65,8 @@ module _ (kind : PassKind) (w : ℕ) (k : Crate) (h : Judged) where
         go false l = rw (en, et) (rw (g, ne-eqb _ _ q, l) refl)
 
     -- a first or second miss, and a third
-    pub moved-again : h .good ≡ false → k .tries < 2 → movedWith Again (crateWith (k .dna) (k .calls) (k .«crc_errors») (k .failed)) ≡ moved kind w k h
+    pub moved-again : h .good ≡ false → k .tries < 2
+        → movedWith Again (crateWith (k .dna) (k .calls) (k .«crc_errors») (k .failed)) ≡ moved kind w k h
     unfolding placeAfter nextPlace afterFailedSend placed
     moved-again g l = rw (en, et) (rw (g, lt-ltb _ _ l) refl)
 
@@ -142,7 +144,8 @@ module _ (kind : PassKind) (w : ℕ) (k : Crate) (h : Judged) where
           pub serves-high : (r .state ≡ k) × (r .answer ≡ Refused NoSuchCrate) → 3 < c → Serves kind w block c k h lent r lent
           serves-high q l = serves-refused r NoSuchCrate q (served-high l)
 
-          pub serves-none : (r .state ≡ k) × (r .answer ≡ Refused NothingOutstanding) → c ≤ 3 → 10 ≤ k .board → Serves kind w block c k h lent r lent
+          pub serves-none : (r .state ≡ k) × (r .answer ≡ Refused NothingOutstanding) → c ≤ 3 → 10 ≤ k .board
+              → Serves kind w block c k h lent r lent
           serves-none q l d = serves-refused r NothingOutstanding q (served-low l ∙ answer-none d)
 
           pub serves-short : (r .state ≡ k) × (r .answer ≡ Refused OutputTooShort) → c ≤ 3 → k .board < 10 → length lent < 28

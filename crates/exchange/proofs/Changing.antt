@@ -190,7 +190,8 @@ module _ (β : Board) (c : ℕ) (h : Judged) where
         go false f n = ap (λ (l : List ℕ). f ++ l) (drop-of-length-le out {i = length f} (omega arith)) ∙ append-nil f
 
     -- so the response prints the answer, and that frame
-    event-printed : (s : Response) (after : List ℕ) (a : Answer Outcome) → replyAnswer β c h out ≡ a → after ≡ bytesReplied β c h out → PrintsOutcome s a
+    event-printed : (s : Response) (after : List ℕ) (a : Answer Outcome) → replyAnswer β c h out ≡ a
+        → after ≡ bytesReplied β c h out → PrintsOutcome s a
         → PrintsInBytes s after (outcomePrinted a due)
     event-printed s after (given o) e q k words = k after words ∙ ap (served o) (ap (nextFrame o) q ∙ next-due o e)
     event-printed s after (refused n p) e q k words = k after words

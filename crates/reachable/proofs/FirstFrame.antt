@@ -99,7 +99,8 @@ past-moved kind w k h b r = go (place (moved kind w k h .state .board))
 -- ---- the crate of a board, through calls that begin no pass
 
 module _ (c : ℕ) (low : c < 4) where
-  past-event : (β : Board) (i : ℕ) (e : Event) (lent : List ℕ) → Holds β → Past (crateAt β c) → Past (crateAt (boardReplied β i (judgedOn β i e) lent) c)
+  past-event : (β : Board) (i : ℕ) (e : Event) (lent : List ℕ) → Holds β → Past (crateAt β c)
+      → Past (crateAt (boardReplied β i (judgedOn β i e) lent) c)
   unfolding withCrates
   past-event β i e lent h p = go (ltb i 4) refl
     where
@@ -115,7 +116,8 @@ module _ (c : ℕ) (low : c < 4) where
           (at-set (β .crates) i (next β i e lent) (omega arith) (λ n k. n ≡ c → Past k)
           (λ s. past-kept (β .kind) (activeWord (β .block) i) (crateAt β i) said lent (subst (λ n. Past (crateAt β n)) (sym s) p)) c (λ s. p) refl)
 
-  past-call : (β : Board) (x : Call) → Free isWriteOrPing β x → Holds β × Past (crateAt β c) → Holds (afterCall β x) × Past (crateAt (afterCall β x) c)
+  past-call : (β : Board) (x : Call) → Free isWriteOrPing β x → Holds β × Past (crateAt β c)
+      → Holds (afterCall β x) × Past (crateAt (afterCall β x) c)
   unfolding afterCall withRun
   past-call β (command words) free (h, p) = (
     holds-kept β (command words) h,

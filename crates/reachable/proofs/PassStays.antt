@@ -30,7 +30,8 @@ use Rattle.reachable.proofs.OnPasses.{all-done, replied-done}
 
 -- ---- with no frame outstanding, a call that begins no pass changes the run alone
 
-pub command-run : (β : Board) (block : List ℕ) (a : Answer Command) → isWriteOrPing a ≡ false → afterCommand β block a ≡ withRun β (afterCommand β block a .run)
+pub command-run : (β : Board) (block : List ℕ) (a : Answer Command) → isWriteOrPing a ≡ false
+    → afterCommand β block a ≡ withRun β (afterCommand β block a .run)
 unfolding withRun
 command-run β block (given (Read kind)) e = refl
 command-run β block (given Write) e = false≢true (sym e)

@@ -29,7 +29,8 @@ abbrev pub soFar : Board → List ℕ → ℕ → SoFar
 soFar β lent number = record { board = β; lent = lent; number = number }
 
 -- one item, and those after it
-one-more : (event : Event) (l : List ℕ) → itemSize event ≤ length l → length l / itemSize event ≡ suc (length (drop (itemSize event) l) / itemSize event)
+one-more : (event : Event) (l : List ℕ) → itemSize event ≤ length l
+    → length l / itemSize event ≡ suc (length (drop (itemSize event) l) / itemSize event)
 one-more Reply l h = rw length-drop (omega arith)
 one-more TimeUp l h = rw length-drop (omega arith)
 
@@ -39,7 +40,8 @@ none-left Reply l h = omega arith
 none-left TimeUp l h = omega arith
 
 -- an item counts once at most, and leaves the rest shorter
-pub few-counted : (rest : List ℕ) (size number number′ most : ℕ) → 1 ≤ size → size ≤ length rest → number′ ≤ number + 1 → number + length rest ≤ most
+pub few-counted : (rest : List ℕ) (size number number′ most : ℕ) → 1 ≤ size → size ≤ length rest → number′ ≤ number + 1
+    → number + length rest ≤ most
     → number′ + length (take (length rest - size) (drop size rest)) ≤ most
 few-counted rest size number number′ most h l o b = rw (part-rest rest size, length-drop) (omega arith)
 
