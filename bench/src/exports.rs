@@ -42,6 +42,16 @@ extern "C" {
         served: *mut u64,
         served_length: usize,
     ) -> u8;
+    fn ftm_rate_pass(
+        words: *const u16,
+        length: usize,
+        items: *const u8,
+        items_length: usize,
+        frame: *mut u8,
+        frame_length: usize,
+        good: *mut u64,
+        good_length: usize,
+    ) -> u8;
     fn ftm_clock_steps(
         words: *const u16,
         length: usize,
@@ -113,6 +123,16 @@ pub fn time_ups(words: &[u16], crates: &[u8], frame: &mut [u8]) -> Counted {
     let (frame, lent) = (frame.as_mut_ptr(), frame.len());
     counted(|served, room| unsafe {
         ftm_time_ups(words, length, crates, count, frame, lent, served, room)
+    })
+}
+
+/// As `replies`, in a rate pass that begins once the command's own pass has run out on silent boards.
+pub fn rate_pass(words: &[u16], items: &[u8], frame: &mut [u8]) -> Counted {
+    let (words, length) = (words.as_ptr(), words.len());
+    let (items, size) = (items.as_ptr(), items.len());
+    let (frame, lent) = (frame.as_mut_ptr(), frame.len());
+    counted(|good, room| unsafe {
+        ftm_rate_pass(words, length, items, size, frame, lent, good, room)
     })
 }
 

@@ -62,9 +62,12 @@ mod plain {
         }
     }
 
-    pub fn pass(words: &[u16], items: &[u8], frame: &mut [u8]) -> Counted {
-        let left_over = (items.len() % ITEM != 0).then_some(Refusal::PacketLength);
-        let mut board = begun(words, 1, left_over)?;
+    fn left_over(items: &[u8]) -> Option<Refusal> {
+        (items.len() % ITEM != 0).then_some(Refusal::PacketLength)
+    }
+
+    /// How many of the replies are good.
+    fn good_replies(board: &mut Board, items: &[u8], frame: &mut [u8]) -> u64 {
         let mut good = 0;
         for item in items.chunks_exact(ITEM) {
             let answer = board.reply(item[0], &item[1..], frame);
@@ -72,7 +75,27 @@ mod plain {
                 good += 1;
             }
         }
-        Ok(good)
+        good
+    }
+
+    pub fn pass(words: &[u16], items: &[u8], frame: &mut [u8]) -> Counted {
+        let mut board = begun(words, 1, left_over(items))?;
+        Ok(good_replies(&mut board, items, frame))
+    }
+
+    /// A rate pass begins, once a pass that is under way has run out on silent boards.
+    pub fn begin_rates(board: &mut Board) {
+        let mut unused = [0; frames::BYTES];
+        for crate_number in 0..4 {
+            while board.time_up(crate_number, &mut unused).is_ok() {}
+        }
+        board.begin_rate_pass().expect("no pass is under way");
+    }
+
+    pub fn rate_pass(words: &[u16], items: &[u8], frame: &mut [u8]) -> Counted {
+        let mut board = begun(words, 1, left_over(items))?;
+        begin_rates(&mut board);
+        Ok(good_replies(&mut board, items, frame))
     }
 
     pub fn time_ups(words: &[u16], crates: &[u8], frame: &mut [u8]) -> Counted {
@@ -94,7 +117,7 @@ mod plain {
             *timestamp = board.header().timestamp;
         }
         let mut block = [0; 498];
-        board.dynamic_block(&[0; 484], &mut block).expect("a dynamic block has 498 words");
+        board.dynamic_block(&[0; 4], &mut block).expect("a dynamic block has 498 words");
         out[ticks.len()] =
             block[11..14].iter().fold(0, |on_time, &word| on_time << 16 | u64::from(word));
         0
@@ -188,14 +211,24 @@ fn good_reply(frame: &[u8; frames::BYTES]) -> [u8; frames::BYTES] {
     if reply[4] == frames::PING {
         reply[5..13].copy_from_slice(&(0x0123_4567_89AB_CDEF_u64 >> 7).to_be_bytes());
     }
+    if reply[4] == frames::RATES {
+        for (count, bytes) in (0x0123_4567_u32..).zip(reply[5..25].chunks_exact_mut(4)) {
+            bytes.copy_from_slice(&count.to_be_bytes());
+        }
+    }
     reply[frames::BYTES - 1] = crc8(&reply[..frames::BYTES - 1]);
     reply
 }
 
-/// The good replies of a whole pass, the crates by turns: to the first frame of each, then to the one that its last reply gave.
-fn good_items(words: &[u16]) -> Vec<u8> {
+/// A board that obeyed a command.
+fn after(words: &[u16]) -> Board {
     let mut board = Board::power_up(0, 0).expect("0 is below 2^57");
     board.obey(words).expect("an idle board");
+    board
+}
+
+/// The good replies of a whole pass, the crates by turns: to the first frame of each, then to the one that its last reply gave.
+fn good_items(mut board: Board) -> Vec<u8> {
     let first = |c| {
         let mut frame = [0; frames::BYTES];
         board.first_frame(c, &mut frame).is_ok().then_some((c, frame))
@@ -260,7 +293,23 @@ fn formats(write: &[u16]) {
     assert_eq!(block, other);
 }
 
-fn series(write: &[u16], writes: &[u8], pings: &[u8]) {
+/// Good replies to the frames of a reprogramming, a ping and a rate pass, each with all boards.
+struct Replies {
+    writes: Vec<u8>,
+    pings: Vec<u8>,
+    rates: Vec<u8>,
+}
+
+impl Replies {
+    fn new(write: &[u16]) -> Self {
+        let mut board = after(write);
+        plain::begin_rates(&mut board);
+        let [writes, pings, rates] = [after(write), after(&PING), board].map(good_items);
+        Self { writes, pings, rates }
+    }
+}
+
+fn series(write: &[u16], Replies { writes, pings, rates }: &Replies) {
     for (what, words, items, count) in [
         ("an accepted write, from power-up", write, &[][..], 1000),
         ("a whole ping, 40 good replies", &PING, pings, 100),
@@ -268,6 +317,10 @@ fn series(write: &[u16], writes: &[u8], pings: &[u8]) {
     ] {
         row(what, pass_times(count, [exports::pass, plain::pass], words, items));
     }
+    let calls: [Pass; 2] = [exports::rate_pass, plain::rate_pass];
+    let [whole, before] = [rates, &[][..]].map(|items| pass_times(100, calls, write, items));
+    row("a write, 120 time-ups, a rate pass begun", before);
+    single("40 good replies of that rate pass", 1, whole, before);
     let run = run_commands();
     let (mut sent, mut again) = (vec![0; 7000], vec![0; 7000]);
     let proved = || exports::triggers(black_box(&run), 1000, black_box(&mut sent));
@@ -276,16 +329,18 @@ fn series(write: &[u16], writes: &[u8], pings: &[u8]) {
     assert_eq!(sent, again);
 }
 
-fn single_calls(write: &[u16], writes: &[u8], pings: &[u8]) {
+fn single_calls(write: &[u16], Replies { writes, pings, rates }: &Replies) {
     let turns: Vec<u8> = (0..120).map(|i| i % 4).collect();
-    let (replies, time_ups): ([Pass; 2], [Pass; 2]) =
-        ([exports::replies, plain::pass], [exports::time_ups, plain::time_ups]);
+    let replies: [Pass; 2] = [exports::replies, plain::pass];
+    let rate_replies: [Pass; 2] = [exports::rate_pass, plain::rate_pass];
+    let time_ups: [Pass; 2] = [exports::time_ups, plain::time_ups];
     for (what, calls, size, words, items) in [
-        ("a reply good, next frame given", replies, ITEM, write, writes),
+        ("a reply good, next frame given", replies, ITEM, write, &writes[..]),
         ("a ping's reply good, next frame given", replies, ITEM, &PING, pings),
+        ("a rate reply good, next frame given", rate_replies, ITEM, write, rates),
         ("a time-up, next frame given", time_ups, 1, write, &turns),
     ] {
-        let [whole, before] = [items, &[]].map(|items| pass_times(50, calls, words, items));
+        let [whole, before] = [items, &[][..]].map(|items| pass_times(50, calls, words, items));
         single(what, items.len() / size, whole, before);
     }
     let run = run_commands();
@@ -319,14 +374,21 @@ fn single_calls(write: &[u16], writes: &[u8], pings: &[u8]) {
 }
 
 /// However many bytes are lent, both count the same items and leave the same bytes.
-fn lent_bytes(write: &[u16], writes: &[u8]) {
-    let calls: [Pass; 3] = [plain::pass, exports::pass, exports::replies];
+fn lent_bytes(write: &[u16], Replies { writes, rates, .. }: &Replies) {
+    let calls: [(Pass, &[u8]); 5] = [
+        (plain::pass, writes),
+        (exports::pass, writes),
+        (exports::replies, writes),
+        (plain::rate_pass, rates),
+        (exports::rate_pass, rates),
+    ];
     for lent in [0, 27, 28, 30] {
-        let [plain, pass, replies] = calls.map(|call| {
+        let [plain, pass, replies, plain_rates, proved_rates] = calls.map(|(call, items)| {
             let mut frame = vec![5; lent];
-            (call(write, writes, &mut frame), frame)
+            (call(write, items, &mut frame), frame)
         });
         assert_eq!([&pass, &replies], [&plain; 2]);
+        assert_eq!(proved_rates, plain_rates);
     }
 }
 
@@ -341,6 +403,8 @@ fn refusals(write: &[u16]) {
         assert_eq!(exports::pass(words, &items, &mut frame), Err(refusal));
         assert_eq!(exports::replies(words, &items, &mut frame), Err(refusal));
         assert_eq!(plain::pass(words, &items, &mut frame), Err(refusal));
+        assert_eq!(exports::rate_pass(words, &items, &mut frame), Err(refusal));
+        assert_eq!(plain::rate_pass(words, &items, &mut frame), Err(refusal));
         assert_eq!(frame, [5; frames::BYTES]);
         let mut other = frame;
         let proved = exports::time_ups(words, &items, &mut frame);
@@ -361,13 +425,13 @@ fn refusals(write: &[u16]) {
 fn main() {
     let write = write_command();
     refusals(&write);
-    let (writes, pings) = (good_items(&write), good_items(&PING));
-    lent_bytes(&write, &writes);
+    let replies = Replies::new(&write);
+    lent_bytes(&write, &replies);
     println!("| on the same input | proved, ns | Rust, ns | ratio |\n|---|---|---|---|");
     formats(&write);
-    series(&write, &writes, &pings);
+    series(&write, &replies);
     println!(
         "\n| one call on the whole board | proved, ns | Rust, ns | ratio |\n|---|---|---|---|"
     );
-    single_calls(&write, &writes, &pings);
+    single_calls(&write, &replies);
 }

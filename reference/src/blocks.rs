@@ -4,8 +4,12 @@ use crate::{configuration, frames::Frame, Refusal, BOARDS, CRATES, ID_LIMIT};
 
 /// Words of the header.
 pub const HEADER: usize = 11;
-/// Words lent for a dynamic block: four temperatures, twelve for each board.
-pub const MEASUREMENTS: usize = 4 + 12 * BOARDS;
+/// Temperatures lent for a dynamic block.
+pub const TEMPERATURES: usize = 4;
+/// Words of one board's rates in a dynamic block.
+pub const RATES: usize = 12;
+/// Words of a dynamic body after the on-time: temperatures, and then the rates.
+pub const MEASUREMENTS: usize = TEMPERATURES + RATES * BOARDS;
 /// Words of the FTU list's body.
 pub const LIST: usize = 249;
 /// Words of a failure message's body.
@@ -18,8 +22,10 @@ pub const ENTRY: usize = 6;
 
 /// Words of the on-time at the start of a dynamic body.
 const ON_TIME: usize = 3;
+/// Rates have 30 bits.
+pub const RATE_LIMIT: u32 = 1 << 30;
 /// Bound of the high words of the rates.
-const RATE_HIGH: u16 = 0x3FFF;
+const RATE_HIGH: u16 = (RATE_LIMIT >> 16) as u16 - 1;
 
 /// The four kinds of blocks.
 #[derive(Clone, Copy, Debug, PartialEq, Eq)]
@@ -66,30 +72,44 @@ pub struct Header {
     pub timestamp: u64,
 }
 
-/// The upper bound of the measurement at `place`: of a board's twelve words,
-/// the high words of the five rates are bounded.
+/// One board's rates (02, i): the counts of patch 0 to 3 and the total, as the
+/// board sent them.
+#[derive(Clone, Copy, Debug, Default, PartialEq, Eq)]
+pub struct BoardRates {
+    pub counts: [u32; 5],
+    pub overflow: u8,
+    pub crc_errors: u8,
+}
+
+impl BoardRates {
+    /// The twelve words: each count in two, high first, overflow, CRC errors.
+    pub fn words(&self) -> [u16; RATES] {
+        let mut words = [0; RATES];
+        for (pair, count) in words.chunks_exact_mut(2).zip(self.counts) {
+            pair.copy_from_slice(&[(count >> 16) as u16, count as u16]);
+        }
+        words[10..].copy_from_slice(&[self.overflow.into(), self.crc_errors.into()]);
+        words
+    }
+}
+
+/// The upper bound of the word at `place` after the on-time: of a board's twelve
+/// words, the high words of the five rates are bounded.
 pub fn measurement_bound(place: usize) -> u16 {
-    match place.checked_sub(4).map(|place| place % 12) {
+    match place.checked_sub(TEMPERATURES).map(|place| place % RATES) {
         Some(0 | 2 | 4 | 6 | 8) => RATE_HIGH,
         _ => 0xFFFF,
     }
 }
 
-/// Checks the number of lent measurements (6) and the rates' high words (8).
-pub fn check_measurements(words: &[u16]) -> Result<(), Refusal> {
-    if words.len() != MEASUREMENTS {
-        return Err(Refusal::WrongLength);
-    }
-    check_rates(words, 0)
-}
-
-/// Checks the high words of the rates; `offset` is the place of `measurements`
-/// in what the caller counts in.
-fn check_rates(measurements: &[u16], offset: usize) -> Result<(), Refusal> {
-    for (board, words) in measurements[4..].chunks_exact(12).enumerate() {
+/// Checks the high words of the rates in a dynamic body: 8 with the lowest place
+/// that is above the bound.
+fn check_rates(body: &[u16]) -> Result<(), Refusal> {
+    let first = ON_TIME + TEMPERATURES;
+    for (board, words) in body[first..].chunks_exact(RATES).enumerate() {
         for pair in 0..5 {
             if words[2 * pair] > RATE_HIGH {
-                let place = offset + 4 + 12 * board + 2 * pair;
+                let place = first + RATES * board + 2 * pair;
                 return Err(Refusal::AboveBound { place });
             }
         }
@@ -135,17 +155,25 @@ pub fn write_static(
     Ok(Kind::Static.words())
 }
 
-/// Writes a dynamic block with the caller's measurements.
+/// Writes a dynamic block with the caller's temperatures, 6 if they are not four,
+/// and these rates, each below 2^30.
 pub fn write_dynamic(
     header: &Header,
     on_time: u64,
-    measurements: &[u16],
+    temperatures: &[u16],
+    rates: &[BoardRates; BOARDS],
     out: &mut [u16],
 ) -> Result<usize, Refusal> {
-    check_measurements(measurements)?;
+    let temperatures: &[u16; TEMPERATURES] =
+        temperatures.try_into().map_err(|_| Refusal::WrongLength)?;
     let body = begin(Kind::Dynamic, header, out)?;
-    body[..ON_TIME].copy_from_slice(&words_of_48(on_time));
-    body[ON_TIME..].copy_from_slice(measurements);
+    let (time, body) = body.split_at_mut(ON_TIME);
+    time.copy_from_slice(&words_of_48(on_time));
+    let (lent, body) = body.split_at_mut(TEMPERATURES);
+    lent.copy_from_slice(temperatures);
+    for (words, rates) in body.chunks_exact_mut(RATES).zip(rates) {
+        words.copy_from_slice(&rates.words());
+    }
     Ok(Kind::Dynamic.words())
 }
 
@@ -179,7 +207,7 @@ pub fn read(kind: Kind, words: &[u16]) -> Result<(Header, &[u16]), Refusal> {
     let (head, body) = words.split_at(HEADER);
     match kind {
         Kind::Static => configuration::check(body)?,
-        Kind::Dynamic => check_rates(&body[ON_TIME..], ON_TIME)?,
+        Kind::Dynamic => check_rates(body)?,
         Kind::List | Kind::Failure => {}
     }
     let number = |words: &[u16]| words.iter().fold(0u64, |sum, &word| sum << 16 | u64::from(word));
@@ -229,35 +257,82 @@ mod tests {
         assert_eq!(read(Kind::Static, &out[..447]), Ok((TOP, &block[..])));
     }
 
+    const ZEROS: [BoardRates; BOARDS] =
+        [BoardRates { counts: [0; 5], overflow: 0, crc_errors: 0 }; BOARDS];
+
+    #[test]
+    fn dynamic_layout() {
+        let mut rates = ZEROS;
+        let counts = [0x0001_1170, 0x0002_0020, 0x3FFF_0000, 0x0000_FFFF, RATE_LIMIT - 1];
+        rates[23] = BoardRates { counts, overflow: 0x80, crc_errors: 0xFF };
+        rates[39] = BoardRates { counts: [0; 5], overflow: 0, crc_errors: 1 };
+        let mut out = [0x7777; 499];
+        let temperatures = [0xFFFF, 0x4000, 0x8000, 3];
+        let written = write_dynamic(&TOP, 0x0004_0005_0006, &temperatures, &rates, &mut out);
+        assert_eq!(written, Ok(498));
+        let mut body = [0; 487];
+        body[..7].copy_from_slice(&[4, 5, 6, 0xFFFF, 0x4000, 0x8000, 3]);
+        body[283..295].copy_from_slice(&[
+            0x0001, 0x1170, 0x0002, 0x0020, 0x3FFF, 0x0000, 0x0000, 0xFFFF, 0x3FFF, 0xFFFF, 0x0080,
+            0x00FF,
+        ]);
+        body[486] = 1;
+        assert_eq!(read(Kind::Dynamic, &out[..498]), Ok((TOP, &body[..])));
+        assert_eq!(out[498], 0x7777);
+    }
+
+    #[test]
+    fn other_numbers_of_temperatures() {
+        for lent in [0, 497, 498, 499] {
+            for temperatures in (0..=8).chain([483, 484, 485, 487, 498]) {
+                let mut out = vec![0x7777; lent];
+                let written = write_dynamic(&TOP, 5, &vec![0xFFFF; temperatures], &ZEROS, &mut out);
+                let expected = match (temperatures, lent) {
+                    (4, 498..) => Ok(498),
+                    (4, _) => Err(Refusal::OutputTooShort),
+                    _ => Err(Refusal::WrongLength),
+                };
+                assert_eq!(written, expected);
+                let kept = if written.is_ok() { 498 } else { 0 };
+                assert!(out[kept..].iter().all(|&word| word == 0x7777));
+            }
+        }
+    }
+
     #[test]
     fn reader_refusals() {
         let mut out = [0; 498];
-        let mut measurements = [0x3FFF; MEASUREMENTS];
-        assert_eq!(write_dynamic(&TOP, 5, &measurements, &mut out), Ok(498));
+        let counts = [RATE_LIMIT - 1; 5];
+        let rates = [BoardRates { counts, overflow: 0xFF, crc_errors: 0xFF }; BOARDS];
+        assert_eq!(write_dynamic(&TOP, 5, &[0xFFFF; 4], &rates, &mut out), Ok(498));
         assert!(read(Kind::Dynamic, &out).is_ok());
         assert_eq!(read(Kind::Static, &out), Err(Refusal::WrongLength));
         assert_eq!(read(Kind::Dynamic, &out[1..]), Err(Refusal::WrongLength));
         out[0] = 0x0200;
         assert_eq!(read(Kind::Dynamic, &out), Err(Refusal::BoardIdOrSpare));
+        out[HEADER + 19] = 0x4000;
+        assert_eq!(read(Kind::Dynamic, &out), Err(Refusal::AboveBound { place: 19 }));
         out[HEADER + 7] = 0x4000;
         assert_eq!(read(Kind::Dynamic, &out), Err(Refusal::AboveBound { place: 7 }));
-        measurements[4] = 0x4000;
-        assert_eq!(check_measurements(&measurements), Err(Refusal::AboveBound { place: 4 }));
-        assert_eq!(check_measurements(&measurements[1..]), Err(Refusal::WrongLength));
         let mut list = [0; 260];
         list[10] = 1;
         assert_eq!(read(Kind::List, &list), Err(Refusal::BoardIdOrSpare));
     }
 
     #[test]
-    fn bounded_measurements() {
-        for place in 0..MEASUREMENTS {
-            let mut measurements = [0; MEASUREMENTS];
-            measurements[place] = 0xFFFF;
-            let of_board = (place + 8) % 12;
-            let bounded = place >= 4 && of_board < 10 && of_board % 2 == 0;
-            let expected = if bounded { Err(Refusal::AboveBound { place }) } else { Ok(()) };
-            assert_eq!(check_measurements(&measurements), expected);
+    fn bounded_words_of_a_dynamic_body() {
+        for place in 0..487 {
+            let mut out = [0; 498];
+            let value = Kind::Dynamic.bound(place);
+            let of_board = (place + 5) % 12;
+            let bounded = place >= 7 && of_board < 10 && of_board % 2 == 0;
+            assert_eq!(value, if bounded { 0x3FFF } else { 0xFFFF });
+            out[HEADER + place] = value;
+            assert!(read(Kind::Dynamic, &out).is_ok());
+            if bounded {
+                out[HEADER + place] += 1;
+                assert_eq!(read(Kind::Dynamic, &out), Err(Refusal::AboveBound { place }));
+            }
         }
     }
 }

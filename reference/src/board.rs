@@ -1,7 +1,7 @@
 //! The board: its state, the commands it obeys, the passes over the FTU
 //! boards, the run, and what it sends out.
 
-use crate::blocks::{self, Header, ENTRY, LIST, LIST_ACTIVE, LIST_ENTRIES};
+use crate::blocks::{self, BoardRates, Header, ENTRY, LIST, LIST_ACTIVE, LIST_ENTRIES};
 use crate::commands::{self, Command, Events, ReadBlock};
 use crate::configuration::{self, ACTIVE};
 use crate::frames::{self, Frame};
@@ -13,13 +13,24 @@ const SENDS: u8 = 3;
 /// Timestamp and on-time have 48 bits.
 const TIME_MASK: u64 = (1 << 48) - 1;
 
-/// What the board is doing (01, Command words).
+/// The kinds of passes.
 #[derive(Clone, Copy, Debug, PartialEq, Eq)]
-pub enum Mode {
-    Idle,
-    Running(Events),
+pub enum PassKind {
     Reprogramming,
     Ping,
+    Rates,
+}
+
+/// What the board is doing (01, Command words): the run and the pass that are
+/// under way. Both at once only if it is a rate pass (02, i).
+#[derive(Clone, Copy, Debug, PartialEq, Eq)]
+pub struct Mode {
+    pub run: Option<Events>,
+    pub pass: Option<PassKind>,
+}
+
+impl Mode {
+    pub const IDLE: Mode = Mode { run: None, pass: None };
 }
 
 /// What was done on a command.
@@ -94,6 +105,10 @@ pub struct Board {
     list: [u16; LIST],
     failures: [Option<Failure>; BOARDS],
     buses: [Bus; CRATES],
+    /// The rates of the last finished rate pass (02, i).
+    rates: [BoardRates; BOARDS],
+    /// Those of the rate pass that is under way, and zeros outside of one.
+    fetched: [BoardRates; BOARDS],
 }
 
 impl Board {
@@ -105,7 +120,7 @@ impl Board {
         Ok(Board {
             board_id,
             firmware_id,
-            mode: Mode::Idle,
+            mode: Mode::IDLE,
             fresh: false,
             trigger_counter: 0,
             timestamp: 0,
@@ -114,6 +129,8 @@ impl Board {
             list: [0; LIST],
             failures: [None; BOARDS],
             buses: [Bus::default(); CRATES],
+            rates: [BoardRates::default(); BOARDS],
+            fetched: [BoardRates::default(); BOARDS],
         })
     }
 
@@ -141,13 +158,17 @@ impl Board {
         Ok((done, used))
     }
 
-    fn carry_out(&mut self, command: &Command) -> Result<Done, Refusal> {
-        let accepted = match command {
+    /// Whether a command is accepted in this state; fresh is not looked at.
+    fn accepts(&self, command: &Command) -> bool {
+        match command {
             Command::Read(_) => true,
-            Command::Stop => matches!(self.mode, Mode::Running(_)),
-            _ => self.mode == Mode::Idle,
-        };
-        if !accepted {
+            Command::Stop => self.mode.run.is_some(),
+            _ => self.mode == Mode::IDLE,
+        }
+    }
+
+    fn carry_out(&mut self, command: &Command) -> Result<Done, Refusal> {
+        if !self.accepts(command) {
             return Err(Refusal::NotInThisState);
         }
         match *command {
@@ -155,7 +176,7 @@ impl Board {
             Command::Write(block) => {
                 self.block.copy_from_slice(block);
                 self.fresh = true;
-                self.begin_pass(Mode::Reprogramming);
+                self.begin_pass(PassKind::Reprogramming);
                 Ok(Done::Write)
             }
             Command::Start(events) => {
@@ -164,7 +185,7 @@ impl Board {
                 }
                 self.fresh = false;
                 self.zero_counters();
-                self.mode = Mode::Running(events);
+                self.mode.run = Some(events);
                 Ok(Done::Start)
             }
             Command::Stop => {
@@ -174,7 +195,7 @@ impl Board {
             Command::Ping => {
                 self.list = [0; LIST];
                 self.list[LIST_ACTIVE..LIST_ENTRIES].copy_from_slice(&self.block[ACTIVE..]);
-                self.begin_pass(Mode::Ping);
+                self.begin_pass(PassKind::Ping);
                 Ok(Done::Ping)
             }
             Command::Reset(crate_number) => {
@@ -191,15 +212,16 @@ impl Board {
         self.on_time = 0;
     }
 
+    /// Ends the run; a rate pass goes on (02, i).
     fn end_run(&mut self) {
         self.zero_counters();
-        self.mode = Mode::Idle;
+        self.mode.run = None;
     }
 
     /// A clock step.
     pub fn clock(&mut self, ticks: u32) {
         self.timestamp = (self.timestamp + u64::from(ticks)) & TIME_MASK;
-        if let Mode::Running(_) = self.mode {
+        if self.mode.run.is_some() {
             self.on_time = (self.on_time + u64::from(ticks)) & TIME_MASK;
         }
     }
@@ -208,9 +230,7 @@ impl Board {
     /// Refuses with 15, 16, 17 or 19.
     pub fn trigger(&mut self, trigger: &Trigger, packet: &mut [u8]) -> Result<(), Refusal> {
         trigger.check()?;
-        let Mode::Running(events) = self.mode else {
-            return Err(Refusal::NotRunning);
-        };
+        let events = self.mode.run.ok_or(Refusal::NotRunning)?;
         let number = self.trigger_counter.checked_add(1).ok_or(Refusal::CounterFull)?;
         packets::write(number, trigger, packet)?;
         if events == Events::Counted(number) {
@@ -221,9 +241,16 @@ impl Board {
         Ok(())
     }
 
+    /// Begins a rate pass, while idle or running (02, i). Refuses with 9.
+    pub fn begin_rate_pass(&mut self) -> Result<(), Refusal> {
+        self.check_no_pass()?;
+        self.begin_pass(PassKind::Rates);
+        Ok(())
+    }
+
     /// Begins a pass: clears the records, and puts each crate at its first step.
-    fn begin_pass(&mut self, mode: Mode) {
-        self.mode = mode;
+    fn begin_pass(&mut self, kind: PassKind) {
+        self.mode.pass = Some(kind);
         self.failures = [None; BOARDS];
         for crate_number in 0..CRATES {
             let step = self.first_step(crate_number, 0);
@@ -232,18 +259,27 @@ impl Board {
         self.end_pass_if_done();
     }
 
+    /// Once all four crates are done the pass has ended; the rates of a rate pass
+    /// are then the finished ones (02, i).
     fn end_pass_if_done(&mut self) {
-        if self.buses.iter().all(|bus| bus.step.is_none()) {
-            self.mode = Mode::Idle;
+        if self.buses.iter().any(|bus| bus.step.is_some()) {
+            return;
+        }
+        if self.mode.pass.take() == Some(PassKind::Rates) {
+            self.rates = self.fetched;
+            self.fetched = [BoardRates::default(); BOARDS];
         }
     }
 
     /// The first step of the first board, from `board` on, that the pass serves.
     fn first_step(&self, crate_number: usize, board: usize) -> Option<Step> {
-        let ping = self.mode == Mode::Ping;
-        let code = if ping { frames::PING } else { frames::DACS };
+        let (code, all) = match self.mode.pass? {
+            PassKind::Reprogramming => (frames::DACS, false),
+            PassKind::Ping => (frames::PING, true),
+            PassKind::Rates => (frames::RATES, false),
+        };
         (board..BOARDS_PER_CRATE)
-            .find(|&board| ping || configuration::is_active(&self.block, crate_number, board))
+            .find(|&board| all || configuration::is_active(&self.block, crate_number, board))
             .map(|board| self.step(crate_number, board, code))
     }
 
@@ -312,12 +348,16 @@ impl Board {
     /// A good reply: moves to the next step.
     fn answered(&mut self, crate_number: usize, step: &Step, reply: &Frame) -> Answer {
         let Step { board, code, sends, .. } = *step;
+        match code {
+            frames::PING => self.enter(crate_number, board, sends, reply),
+            frames::RATES => {
+                let k = BOARDS_PER_CRATE * crate_number + board;
+                self.fetched[k] = frames::rates(reply);
+            }
+            _ => {}
+        }
         let next = match code {
             frames::DACS | frames::ENABLES => Some(self.step(crate_number, board, code + 1)),
-            frames::PING => {
-                self.enter(crate_number, board, sends, reply);
-                self.first_step(crate_number, board + 1)
-            }
             _ => self.first_step(crate_number, board + 1),
         };
         self.proceed(crate_number, Outcome::Good, next)
@@ -388,9 +428,10 @@ impl Board {
         blocks::write_static(&self.header(), &self.block, out)
     }
 
-    /// Writes a dynamic block with these measurements. Refuses with 6, 8 or 19.
-    pub fn dynamic_block(&self, measurements: &[u16], out: &mut [u16]) -> Result<usize, Refusal> {
-        blocks::write_dynamic(&self.header(), self.on_time, measurements, out)
+    /// Writes a dynamic block with these temperatures and the rates of the last
+    /// finished rate pass (02, i). Refuses with 6 or 19.
+    pub fn dynamic_block(&self, temperatures: &[u16], out: &mut [u16]) -> Result<usize, Refusal> {
+        blocks::write_dynamic(&self.header(), self.on_time, temperatures, &self.rates, out)
     }
 
     /// Writes the FTU list. Refuses with 9 or 19.
@@ -408,9 +449,9 @@ impl Board {
     }
 
     fn check_no_pass(&self) -> Result<(), Refusal> {
-        match self.mode {
-            Mode::Reprogramming | Mode::Ping => Err(Refusal::NotInThisState),
-            Mode::Idle | Mode::Running(_) => Ok(()),
+        match self.mode.pass {
+            Some(_) => Err(Refusal::NotInThisState),
+            None => Ok(()),
         }
     }
 }
@@ -530,7 +571,7 @@ mod tests {
         assert_eq!(board.failure_message(0, &mut out), Ok(40));
         assert_eq!(out[11..17], [3, 0x40, 0x24, 192, 0, 1]);
         assert_eq!(board.failure_message(1, &mut out), Err(Refusal::NoSuchRecord));
-        assert_eq!(board.mode(), Mode::Idle);
+        assert_eq!(board.mode(), Mode::IDLE);
     }
 
     #[test]
@@ -545,14 +586,14 @@ mod tests {
             assert_eq!(count(&mut board, 0, Right), answer);
         }
         assert_eq!(board.frames_sent(0), Ok(9));
-        assert_eq!(board.mode(), Mode::Idle);
+        assert_eq!(board.mode(), Mode::IDLE);
     }
 
     #[test]
     fn no_active_board_is_idle_at_once() {
         let mut board = Board::power_up(1, 2).unwrap();
         board.obey(&write_words(|_| ())).unwrap();
-        assert_eq!(board.mode(), Mode::Idle);
+        assert_eq!(board.mode(), Mode::IDLE);
         assert_eq!(board.obey(&START), Ok((Done::Start, 5)));
         assert_eq!(board.obey(&START).unwrap_err().refusal, Refusal::NotInThisState);
         assert_eq!(board.obey(&STOP), Ok((Done::Stop, 5)));
@@ -624,7 +665,7 @@ mod tests {
                 board.reply(crate_number, &reply, &mut [0; 28]).unwrap();
             }
         }
-        assert_eq!(board.mode(), Mode::Idle);
+        assert_eq!(board.mode(), Mode::IDLE);
         let mut out = [0; 260];
         board.ftu_list(&mut out).unwrap();
         let list = &out[11..];
@@ -662,6 +703,17 @@ mod tests {
     fn pinging() -> Board {
         let mut board = Board::power_up(1, 2).unwrap();
         board.obey(&PING).unwrap();
+        board
+    }
+
+    /// The same boards in a rate pass, begun idle or in a run (02, i).
+    fn fetching(running: bool) -> Board {
+        let mut board = reprogramming();
+        run_out(&mut board);
+        if running {
+            board.obey(&START).unwrap();
+        }
+        board.begin_rate_pass().unwrap();
         board
     }
 
@@ -720,6 +772,26 @@ mod tests {
         check_handed_out(&pinging(), &[&pings[..], &[(Right, Good, None)]].concat());
     }
 
+    #[test]
+    fn answers_hand_out_the_next_rate_frame() {
+        use Outcome::{Again, Failed, Good};
+        for running in [false, true] {
+            let begun = fetching(running);
+            check_handed_out(&begun, &[(Right, Good, Some((7, 5))), (Right, Good, None)]);
+            check_handed_out(
+                &begun,
+                &[
+                    (TimeUp, Again, Some((2, 5))),
+                    (Wrong, Again, Some((2, 5))),
+                    (TimeUp, Failed, Some((7, 5))),
+                    (Wrong, Again, Some((7, 5))),
+                    (Wrong, Again, Some((7, 5))),
+                    (Wrong, Failed, None),
+                ],
+            );
+        }
+    }
+
     /// The first frame, with 40 bytes lent; those that it does not fill stay.
     fn first_frame(board: &Board, crate_number: u8) -> Result<Frame, Refusal> {
         let mut lent = [HELD; 40];
@@ -736,6 +808,8 @@ mod tests {
             (reprogramming(), &[TimeUp, Wrong, TimeUp, Right]),
             (pinging(), &[Right]),
             (pinging(), &[Wrong, TimeUp, Wrong, Right]),
+            (fetching(false), &[Right]),
+            (fetching(true), &[TimeUp, Wrong, Right]),
         ] {
             let mut counted = 0;
             // At every step, the last one too, after which no frame would be due.
@@ -759,7 +833,13 @@ mod tests {
 
     #[test]
     fn lowest_refusal_on_a_crate() {
-        let mut board = reprogramming();
+        for (board, code) in [(reprogramming(), 1), (fetching(false), 5), (fetching(true), 5)] {
+            check_lowest_refusal(board, code);
+        }
+    }
+
+    /// With the boards of `reprogramming` in a pass that begins with this code.
+    fn check_lowest_refusal(mut board: Board, code: u8) {
         count(&mut board, 3, TimeUp);
         let before = board.clone();
         for length in [0, 27, 28, 40] {
@@ -784,7 +864,7 @@ mod tests {
         assert_eq!(board, before);
         let mut lent = [HELD; 28];
         assert_eq!(board.first_frame(1, &mut lent), Ok(()));
-        assert_eq!(lent, frames::for_board(&board.block, 1, 2, 1));
+        assert_eq!(lent, frames::for_board(&board.block, 1, 2, code));
     }
 
     #[test]
@@ -806,7 +886,7 @@ mod tests {
                 assert_eq!([1, 3].map(|c| first_frame(&board, c)), [refused, other]);
             }
             run_out(&mut board);
-            assert_eq!(board.mode(), Mode::Idle);
+            assert_eq!(board.mode(), Mode::IDLE);
             assert_eq!([0, 1, 2, 3].map(|c| first_frame(&board, c)), [refused; 4]);
             // What was refused before a pass does not count in it.
             assert!(board.time_up(1, &mut [0; 28]).is_err());
@@ -864,18 +944,18 @@ mod tests {
         let mut board = Board::power_up(1, 2).unwrap();
         board.obey(&write_words(|block| block[0x1B1] = 1)).unwrap();
         let refused = CommandRefused { refusal: Refusal::NotInThisState, used: 5 };
-        for pass in [Mode::Reprogramming, Mode::Ping] {
-            if pass == Mode::Ping {
+        for pass in [PassKind::Reprogramming, PassKind::Ping] {
+            if pass == PassKind::Ping {
                 board.obey(&PING).unwrap();
             }
-            assert_eq!(board.mode(), pass);
+            assert_eq!(board.mode().pass, Some(pass));
             for crate_number in 0..4 {
                 let before = board.clone();
                 assert_eq!(board.obey(&reset_words(crate_number)), Err(refused));
                 assert_eq!(board, before);
             }
             run_out(&mut board);
-            assert_eq!(board.mode(), Mode::Idle);
+            assert_eq!(board.mode(), Mode::IDLE);
             let mut started = board.clone();
             assert_eq!(started.obey(&START), Ok((Done::Start, 5)));
             let running = started.clone();
@@ -915,5 +995,302 @@ mod tests {
         assert!(board.reply(4, &[], &mut [0; 28]).is_err());
         assert!(board.ftu_list(&mut [0; 260]).is_err());
         assert_eq!(board, before);
+    }
+
+    const RESET: [u16; 5] = [0x40, 0x20, 2, 0, 0];
+    const NOT_NOW: Refusal = Refusal::NotInThisState;
+
+    /// Rates of board k, and a good reply that carries them.
+    fn rates_of(k: u32) -> BoardRates {
+        let counts = [k + 1, 0x1_0000 * k, blocks::RATE_LIMIT - 1 - k, 0, 0x1234 + k];
+        BoardRates { counts, overflow: 200 + k as u8, crc_errors: 100 + k as u8 }
+    }
+
+    fn rate_reply(board: &Board, crate_number: u8, rates: &BoardRates) -> Frame {
+        let mut reply = good(board, crate_number);
+        for (bytes, count) in reply[5..25].chunks_exact_mut(4).zip(rates.counts) {
+            bytes.copy_from_slice(&count.to_be_bytes());
+        }
+        reply[25] = rates.overflow;
+        reply[26] = rates.crc_errors;
+        reply[27] = crc8(&reply[..27]);
+        reply
+    }
+
+    /// Hands in the rates of the board that is asked on a crate.
+    fn give_rates(board: &mut Board, crate_number: u8) -> Answer {
+        let number = board.outstanding_step(crate_number).unwrap().1.board;
+        let k = BOARDS_PER_CRATE * usize::from(crate_number) + number;
+        let reply = rate_reply(board, crate_number, &rates_of(k as u32));
+        board.reply(crate_number, &reply, &mut [0; 28]).unwrap()
+    }
+
+    /// The rates in the dynamic block, twelve words for each board.
+    fn shown_rates(board: &Board) -> Vec<[u16; 12]> {
+        let mut out = [0x7777; 499];
+        assert_eq!(board.dynamic_block(&[1, 0xFFFF, 0x4000, 3], &mut out), Ok(498));
+        assert_eq!(out[14..18], [1, 0xFFFF, 0x4000, 3]);
+        assert_eq!(out[498], 0x7777);
+        out[18..498].chunks_exact(12).map(|words| words.try_into().unwrap()).collect()
+    }
+
+    /// Those of these boards, and zeros for the others.
+    fn rates_with(boards: &[usize]) -> Vec<[u16; 12]> {
+        let words = |k: usize| rates_of(k as u32).words();
+        (0..BOARDS).map(|k| if boards.contains(&k) { words(k) } else { [0; 12] }).collect()
+    }
+
+    /// An idle board, boards 12, 17 and 30 active, with rates of 12 and 30: board 17
+    /// is dead, board 30 slow.
+    fn board_with_rates() -> Board {
+        let mut board = fetching(false);
+        give_rates(&mut board, 1);
+        for given in [TimeUp, Wrong, TimeUp] {
+            count(&mut board, 1, given);
+        }
+        count(&mut board, 3, Wrong);
+        count(&mut board, 3, TimeUp);
+        assert_eq!(shown_rates(&board), rates_with(&[]));
+        assert_eq!(give_rates(&mut board, 3), Answer { outcome: Outcome::Good, done: true });
+        assert_eq!(board.mode(), Mode::IDLE);
+        assert_eq!(shown_rates(&board), rates_with(&[12, 30]));
+        board
+    }
+
+    #[test]
+    fn rates_with_a_dead_and_a_slow_board() {
+        let board = board_with_rates();
+        assert_eq!([0, 1, 2, 3].map(|c| board.frames_sent(c)), [Ok(0), Ok(4), Ok(0), Ok(3)]);
+        let mut message = [0; 40];
+        board.failure_message(0, &mut message).unwrap();
+        assert_eq!(message[11..17], [3, 0x40, 0x17, 192, 0, 5]);
+        assert!(message[17..39].iter().all(|&word| word == 0));
+        assert_eq!(board.failure_message(1, &mut message), Err(Refusal::NoSuchRecord));
+    }
+
+    #[test]
+    fn counts_at_their_bound() {
+        for place in 0..5 {
+            for count in [blocks::RATE_LIMIT - 1, blocks::RATE_LIMIT, u32::MAX] {
+                let mut board = fetching(true);
+                let mut rates = rates_of(12);
+                rates.counts[place] = count;
+                let reply = rate_reply(&board, 1, &rates);
+                let answer = board.reply(1, &reply, &mut [0; 28]).unwrap();
+                let right = count < blocks::RATE_LIMIT;
+                let outcome = if right { Outcome::Good } else { Outcome::Again };
+                assert_eq!(answer, Answer { outcome, done: false });
+                run_out(&mut board);
+                let expected = if right { rates.words() } else { [0; 12] };
+                assert_eq!(shown_rates(&board)[12], expected);
+                assert_eq!(board.frames_sent(1), Ok(if right { 4 } else { 6 }));
+            }
+        }
+    }
+
+    #[test]
+    fn rate_pass_begins_idle_or_running_alone() {
+        for running in [false, true] {
+            let board = fetching(running);
+            let run = running.then_some(Events::Endless);
+            assert_eq!(board.mode(), Mode { run, pass: Some(PassKind::Rates) });
+        }
+        for mut board in [reprogramming(), pinging(), fetching(false), fetching(true)] {
+            let before = board.clone();
+            assert_eq!(board.begin_rate_pass(), Err(NOT_NOW));
+            assert_eq!(board, before);
+        }
+    }
+
+    #[test]
+    fn commands_in_a_rate_pass() {
+        let write = write_words(|_| ());
+        for running in [false, true] {
+            let mut board = fetching(running);
+            let before = board.clone();
+            for words in [&write[..], &START, &[0x40, 4, 2, 0, 0, 0, 1], &PING, &RESET] {
+                let refused = CommandRefused { refusal: NOT_NOW, used: words.len() };
+                assert_eq!(board.obey(words), Err(refused));
+            }
+            for (parameter, block) in [(1, ReadBlock::Static), (2, ReadBlock::Dynamic)] {
+                assert_eq!(board.obey(&[0x40, 1, parameter, 0, 0]), Ok((Done::Read(block), 5)));
+            }
+            assert_eq!(board.ftu_list(&mut [0; 260]), Err(NOT_NOW));
+            assert_eq!(board.failure_message(0, &mut [0; 40]), Err(NOT_NOW));
+            assert_eq!(board, before);
+            let stopped = board.obey(&STOP);
+            if running {
+                assert_eq!(stopped, Ok((Done::Stop, 5)));
+                assert_eq!(board, Board { mode: fetching(false).mode(), ..before });
+            } else {
+                assert_eq!(stopped, Err(CommandRefused { refusal: NOT_NOW, used: 5 }));
+                assert_eq!(board, before);
+            }
+        }
+    }
+
+    #[test]
+    fn rate_pass_goes_on_when_the_run_ends() {
+        let mut board = fetching(false);
+        run_out(&mut board);
+        board.obey(&write_words(|block| block[0x1B0] = 3)).unwrap();
+        run_out(&mut board);
+        board.obey(&[0x40, 4, 2, 0, 0, 0, 2]).unwrap();
+        let mut packet = [0; 7];
+        board.trigger(&Trigger::default(), &mut packet).unwrap();
+        board.begin_rate_pass().unwrap();
+        board.clock(5);
+        assert_eq!((board.timestamp, board.on_time), (5, 5));
+        give_rates(&mut board, 0);
+        board.trigger(&Trigger::default(), &mut packet).unwrap();
+        assert_eq!(packet[..4], [2, 0, 0, 0]);
+        assert_eq!(board.mode(), Mode { run: None, pass: Some(PassKind::Rates) });
+        assert_eq!((board.trigger_counter, board.timestamp, board.on_time), (0, 0, 0));
+        assert_eq!(board.trigger(&Trigger::default(), &mut packet), Err(Refusal::NotRunning));
+        board.clock(7);
+        assert_eq!(give_rates(&mut board, 0), Answer { outcome: Outcome::Good, done: true });
+        assert_eq!((board.mode(), board.timestamp, board.on_time), (Mode::IDLE, 7, 0));
+        assert_eq!(shown_rates(&board), rates_with(&[0, 1]));
+    }
+
+    #[test]
+    fn run_goes_on_when_the_rate_pass_ends() {
+        let mut board = fetching(true);
+        board.clock(5);
+        run_out(&mut board);
+        assert_eq!(board.mode(), Mode { run: Some(Events::Endless), pass: None });
+        assert_eq!((board.timestamp, board.on_time), (5, 5));
+        assert_eq!(board.failure_message(2, &mut [0; 40]), Ok(40));
+        assert_eq!(board.ftu_list(&mut [0; 260]), Ok(260));
+        assert_eq!(board.obey(&STOP), Ok((Done::Stop, 5)));
+    }
+
+    #[test]
+    fn nothing_else_changes_the_rates() {
+        let mut board = board_with_rates();
+        let expected = rates_with(&[12, 30]);
+        let write = write_words(|block| block[0x1B0..].fill(0x03FF));
+        for words in [&RESET[..], &PING, &write, &START, &STOP] {
+            board.obey(words).unwrap();
+            assert_eq!(shown_rates(&board), expected);
+            for crate_number in 0..4 {
+                while is_open(&board, crate_number) {
+                    count(&mut board, crate_number, Right);
+                }
+            }
+            board.clock(1);
+            assert_eq!(board.mode().pass, None);
+            assert_eq!(shown_rates(&board), expected);
+        }
+        // A later rate pass, until it has ended: all 40 boards, of which one answers.
+        board.begin_rate_pass().unwrap();
+        give_rates(&mut board, 2);
+        run_out_but_one(&mut board);
+        assert_eq!(shown_rates(&board), expected);
+        count(&mut board, 3, TimeUp);
+        assert_eq!(shown_rates(&board), rates_with(&[20]));
+        assert_eq!(shown_rates(&Board::power_up(1, 2).unwrap()), rates_with(&[]));
+    }
+
+    /// Lets the boards time out until one item is left, on crate 3.
+    fn run_out_but_one(board: &mut Board) {
+        for crate_number in 0..3 {
+            while is_open(board, crate_number) {
+                count(board, crate_number, TimeUp);
+            }
+        }
+        while board.frames_sent(3) != Ok(30) {
+            count(board, 3, TimeUp);
+        }
+    }
+
+    #[test]
+    fn rate_pass_without_an_active_board() {
+        for running in [false, true] {
+            let mut board = board_with_rates();
+            board.obey(&write_words(|_| ())).unwrap();
+            if running {
+                board.obey(&START).unwrap();
+            }
+            let before = board.clone();
+            assert_eq!(board.begin_rate_pass(), Ok(()));
+            assert_eq!(shown_rates(&board), rates_with(&[]));
+            assert_eq!(board, Board { rates: [BoardRates::default(); BOARDS], ..before });
+        }
+    }
+
+    #[test]
+    fn rate_pass_clears_records_and_frame_numbers_alone() {
+        for running in [false, true] {
+            let mut board = used_board();
+            if running {
+                board.obey(&START).unwrap();
+                board.clock(9);
+            }
+            let before = board.clone();
+            board.begin_rate_pass().unwrap();
+            assert_eq!([0, 1, 2, 3].map(|c| board.frames_sent(c)), [Ok(1), Ok(1), Ok(0), Ok(1)]);
+            let mode = Mode { pass: Some(PassKind::Rates), ..before.mode };
+            let (failures, buses) = ([None; BOARDS], board.buses);
+            assert_eq!(board, Board { mode, failures, buses, ..before.clone() });
+            for crate_number in [0, 1, 3] {
+                give_rates(&mut board, crate_number);
+            }
+            assert_eq!((board.mode, board.list, board.fresh), (before.mode, before.list, !running));
+            assert_eq!(board.failure_message(0, &mut [0; 40]), Err(Refusal::NoSuchRecord));
+            assert_eq!(shown_rates(&board), rates_with(&[0, 11, 33]));
+        }
+    }
+
+    /// Leaving out triggers, a stop and clock steps changes no item's answer or
+    /// bytes, and nothing that belongs to the pass; leaving out the pass changes no
+    /// packet and no counter.
+    #[test]
+    fn nothing_between_matters() {
+        let items = [TimeUp, Right, Wrong, TimeUp, Wrong].map(|given| (1, given));
+        let items = [&items[..], &[(3, Wrong), (3, Right), (3, Right)]].concat();
+        for stop_at in 0..=items.len() {
+            let [mut whole, mut alone] = [true, true].map(fetching);
+            let mut run = reprogramming();
+            run_out(&mut run);
+            run.obey(&START).unwrap();
+            for (place, &(crate_number, given)) in items.iter().enumerate() {
+                let got = [&mut whole, &mut run].map(|b| go_on(b, place as u32, place == stop_at));
+                assert_eq!(got[0], got[1]);
+                for length in [0, 27, 28, 40] {
+                    let got = [&mut whole, &mut alone]
+                        .map(|b| serve_open(b, crate_number, given, length));
+                    assert_eq!(got[0], got[1]);
+                }
+            }
+            assert_eq!(
+                (whole.buses, whole.failures, whole.rates, whole.fetched),
+                (alone.buses, alone.failures, alone.rates, alone.fetched)
+            );
+            assert_eq!(whole.header(), run.header());
+            assert_eq!((whole.on_time, whole.mode.run), (run.on_time, run.mode.run));
+        }
+    }
+
+    /// A stop where it is wanted, a clock step and a trigger.
+    fn go_on(board: &mut Board, ticks: u32, stop: bool) -> (Result<(), Refusal>, [u8; 7]) {
+        if stop {
+            board.obey(&STOP).unwrap();
+        }
+        board.clock(ticks);
+        let mut packet = [HELD; 7];
+        (board.trigger(&Trigger::default(), &mut packet), packet)
+    }
+
+    /// Hands something in with so many bytes lent, while the crate is not done.
+    fn serve_open(
+        board: &mut Board,
+        crate_number: u8,
+        given: Given,
+        length: usize,
+    ) -> (Option<Result<Answer, Refusal>>, [u8; 40]) {
+        let mut lent = [HELD; 40];
+        let open = is_open(board, crate_number);
+        (open.then(|| hand_in(board, crate_number, given, &mut lent[..length])), lent)
     }
 }

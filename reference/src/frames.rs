@@ -1,5 +1,6 @@
 //! Slow-control frames of 28 bytes (01, Slow control).
 
+use crate::blocks::{BoardRates, RATE_LIMIT};
 use crate::{configuration, crc::crc8, ID_LIMIT};
 
 /// Bytes of a frame.
@@ -19,6 +20,8 @@ pub const ENABLES: u8 = 2;
 pub const PRESCALING: u8 = 3;
 /// Code of a ping.
 pub const PING: u8 = 4;
+/// Code of a rate frame (02, i).
+pub const RATES: u8 = 5;
 
 /// Address of board `board` of crate `crate_number`.
 pub fn address(crate_number: usize, board: usize) -> u8 {
@@ -63,9 +66,20 @@ pub fn dna(reply: &Frame) -> u64 {
     u64::from_be_bytes(bytes)
 }
 
+/// The rates in a reply to a rate frame: five counts of four bytes from byte 5
+/// on, high first, the overflow in byte 25, the CRC errors in byte 26 (02, i).
+pub fn rates(reply: &Frame) -> BoardRates {
+    let mut counts = [0; 5];
+    for (count, bytes) in counts.iter_mut().zip(reply[5..25].chunks_exact(4)) {
+        *count = bytes.iter().fold(0, |sum, &byte| sum << 8 | u32::from(byte));
+    }
+    BoardRates { counts, overflow: reply[25], crc_errors: reply[26] }
+}
+
 /// The reply as a frame if it is a good one to `sent`: 28 bytes, byte 0, the
-/// addresses exchanged, the same code, a right CRC, and the data as sent or,
-/// for a ping, a DNA below 2^57 and zeros. Bytes 3 and 26 are the FTU's own.
+/// addresses exchanged, the same code, a right CRC, and the data as sent; for a
+/// ping, a DNA below 2^57 and zeros; for rates, counts below 2^30 (02, i). Bytes
+/// 3 and 26 are the FTU's own.
 pub fn good_reply<'a>(sent: &Frame, reply: &'a [u8]) -> Option<&'a Frame> {
     let reply: &Frame = reply.try_into().ok()?;
     let head = reply[0] == DELIMITER
@@ -73,10 +87,10 @@ pub fn good_reply<'a>(sent: &Frame, reply: &'a [u8]) -> Option<&'a Frame> {
         && reply[2] == sent[1]
         && reply[4] == sent[4]
         && reply[27] == crc8(&reply[..27]);
-    let data = if sent[4] == PING {
-        dna(reply) < ID_LIMIT && reply[13..26].iter().all(|&byte| byte == 0)
-    } else {
-        reply[5..26] == sent[5..26]
+    let data = match sent[4] {
+        PING => dna(reply) < ID_LIMIT && reply[13..26].iter().all(|&byte| byte == 0),
+        RATES => rates(reply).counts.iter().all(|&count| count < RATE_LIMIT),
+        _ => reply[5..26] == sent[5..26],
     };
     (head && data).then_some(reply)
 }
@@ -107,6 +121,10 @@ mod tests {
         let frame = write(3, 9, PING, &words);
         assert_eq!(frame[..5], [0x40, 57, 192, 0, 4]);
         assert!(frame[5..27].iter().all(|&byte| byte == 0));
+        let frame = write(1, 2, RATES, &words);
+        assert_eq!(frame[..5], [0x40, 0x12, 192, 0, 5]);
+        assert!(frame[5..27].iter().all(|&byte| byte == 0));
+        assert_eq!(frame[27], crc8(&frame[..27]));
     }
 
     #[test]
@@ -139,5 +157,68 @@ mod tests {
         reply[13] = 1;
         reply[27] = crc8(&reply[..27]);
         assert!(good_reply(&sent, &reply).is_none());
+    }
+
+    /// A reply to a rate frame with these counts, overflow, byte 3 and byte 26.
+    fn rate_reply(sent: &Frame, counts: [u32; 5], free: [u8; 3]) -> Frame {
+        let mut reply = exchange(sent);
+        for (place, count) in counts.iter().enumerate() {
+            reply[5 + 4 * place..9 + 4 * place].copy_from_slice(&count.to_be_bytes());
+        }
+        [reply[25], reply[3], reply[26]] = free;
+        reply[27] = crc8(&reply[..27]);
+        reply
+    }
+
+    #[test]
+    fn bounds_of_counts() {
+        let sent = write(1, 7, RATES, &[9; 10]);
+        for others in [0, 1, RATE_LIMIT - 1] {
+            for place in 0..5 {
+                for count in [0, 1, RATE_LIMIT - 1, RATE_LIMIT, RATE_LIMIT + 1, 1 << 31, u32::MAX] {
+                    let mut counts = [others; 5];
+                    counts[place] = count;
+                    for free in [[0; 3], [0xFF, 0, 0], [0, 0xFF, 0], [0, 0, 0xFF], [1, 2, 3]] {
+                        let reply = rate_reply(&sent, counts, free);
+                        let expected = (count < RATE_LIMIT).then_some(BoardRates {
+                            counts,
+                            overflow: free[0],
+                            crc_errors: free[2],
+                        });
+                        assert_eq!(good_reply(&sent, &reply).map(rates), expected);
+                    }
+                }
+            }
+        }
+    }
+
+    #[test]
+    fn rate_reply_right_but_for_its_data() {
+        let sent = write(3, 0, RATES, &[0; 10]);
+        let reply = rate_reply(&sent, [1, 2, 3, 4, 11], [5, 6, 7]);
+        assert!(good_reply(&sent, &reply).is_some());
+        assert!(good_reply(&sent, &exchange(&sent)).is_some());
+        for length in [0, 27] {
+            assert!(good_reply(&sent, &reply[..length]).is_none());
+        }
+        assert!(good_reply(&sent, &[&reply[..], &[0]].concat()).is_none());
+        // The low bit of any byte: no count reaches 2^30 by it.
+        for place in 0..28 {
+            let mut changed = reply;
+            changed[place] ^= 1;
+            assert!(good_reply(&sent, &changed).is_none());
+            changed[27] = crc8(&changed[..27]);
+            let free = place == 3 || place >= 5;
+            assert_eq!(good_reply(&sent, &changed).is_some(), free, "byte {place}");
+        }
+    }
+
+    #[test]
+    fn rates_are_no_reply_to_other_codes() {
+        for code in [DACS, ENABLES, PRESCALING, PING] {
+            let sent = write(1, 7, code, &[0; 10]);
+            let reply = rate_reply(&sent, [1, 2, 3, 4, 10], [0; 3]);
+            assert!(good_reply(&sent, &reply).is_none());
+        }
     }
 }

@@ -4,19 +4,24 @@
 
 use std::collections::BTreeMap;
 
-use crate::board::{Board, Mode};
+use crate::blocks::{self, RATE_LIMIT, TEMPERATURES};
+use crate::board::{Board, Mode, PassKind};
 use crate::commands::{self, Command, Events, ReadBlock};
 use crate::configuration::{self, ACTIVE};
 use crate::crc::crc8;
 use crate::frames::{self, Frame};
 use crate::replay::{push_bytes, push_words, Replay, MAX_DIGITS};
-use crate::{blocks, BOARDS, BOARDS_PER_CRATE, CRATES, ID_LIMIT};
+use crate::{BOARDS, BOARDS_PER_CRATE, CRATES, ID_LIMIT};
 
+mod between;
 mod far_end;
+mod rates;
+
+pub use between::{between, Interleaved, Part};
 
 /// Scripts compared where no other number is asked for.
 pub const SCRIPTS: usize = 4000;
-/// Scripts of a group: two sessions, two passes and one of each other family.
+/// Scripts of a group: two sessions and one of each other family.
 const GROUP: usize = 10;
 
 /// The splitmix64 random number generator.
@@ -116,6 +121,8 @@ pub fn crate_in(line: &[u8]) -> usize {
     usize::from(second.expect("two digits of a crate") - b'0')
 }
 
+/// The kinds of passes.
+const PASS_KINDS: [PassKind; 3] = [PassKind::Reprogramming, PassKind::Ping, PassKind::Rates];
 /// The bounded words of the static block.
 const BOUNDED: [usize; 8] = [0, 1, 2, 3, 432, 433, 434, 435];
 /// The bytes of a trigger that are flags.
@@ -153,7 +160,11 @@ impl Script {
     }
 
     fn in_pass(&self) -> bool {
-        matches!(self.mode(), Mode::Reprogramming | Mode::Ping)
+        self.mode().pass.is_some()
+    }
+
+    fn is_running(&self) -> bool {
+        self.mode().run.is_some()
     }
 
     /// The frame that waits for a reply from this crate.
@@ -188,7 +199,7 @@ impl Script {
                 self.frames[crate_in(line)] = Some(frame);
             }
             (b'C', Some(b"write" | b"ping")) => self.fetch_first_frames(),
-            (b'P', None) if accepted => self.fetch_first_frames(),
+            (b'P' | b'B', None) if accepted => self.fetch_first_frames(),
             _ => {}
         }
     }
@@ -291,7 +302,7 @@ fn quiet_block(random: &mut Random) -> [u16; configuration::WORDS] {
     block
 }
 
-/// Measurements within their bounds.
+/// The temperatures and rates of a dynamic body, within their bounds.
 fn random_measurements(random: &mut Random) -> [u16; blocks::MEASUREMENTS] {
     let mut words = [0; blocks::MEASUREMENTS];
     for (place, word) in words.iter_mut().enumerate() {
@@ -322,6 +333,9 @@ fn good_reply(random: &mut Random, sent: &Frame) -> Frame {
         };
         reply[5..13].copy_from_slice(&dna.to_be_bytes());
     }
+    if sent[4] == frames::RATES {
+        put_counts(random, &mut reply);
+    }
     if random.chance(60) {
         reply[3] = random.byte();
     }
@@ -330,6 +344,43 @@ fn good_reply(random: &mut Random, sent: &Frame) -> Frame {
     }
     mend(&mut reply);
     reply
+}
+
+/// Puts five counts below 2^30 and an overflow into a reply (02, i); the total is
+/// the sum, modulo 2^30, in half of the cases.
+fn put_counts(random: &mut Random, reply: &mut Frame) {
+    let mut counts = [0; 5];
+    for count in &mut counts {
+        let any = random.number() as u32 >> random.below(32);
+        *count = random.choose(&[0, 1, RATE_LIMIT - 1, any, any, any, any]) % RATE_LIMIT;
+    }
+    if random.chance(50) {
+        let sum = counts[..4].iter().fold(0u32, |sum, &count| sum.wrapping_add(count));
+        counts[4] = sum % RATE_LIMIT;
+    }
+    for (bytes, count) in reply[5..25].chunks_exact_mut(4).zip(counts) {
+        bytes.copy_from_slice(&count.to_be_bytes());
+    }
+    if random.chance(60) {
+        reply[25] = random.byte();
+    }
+}
+
+/// Puts one count at or near 2^30, or high above it, into a reply.
+fn put_count_at_its_bound(random: &mut Random, reply: &mut Frame) {
+    let any = random.number() as u32 | RATE_LIMIT << random.below(2);
+    let count = random.choose(&[
+        RATE_LIMIT - 1,
+        RATE_LIMIT,
+        RATE_LIMIT,
+        RATE_LIMIT + 1,
+        1 << 31,
+        u32::MAX,
+        u32::MAX,
+        any,
+    ]);
+    let place = 5 + 4 * random.below(5);
+    reply[place..place + 4].copy_from_slice(&count.to_be_bytes());
 }
 
 /// Makes the last byte the CRC of those before it.
@@ -355,6 +406,11 @@ fn odd_reply(random: &mut Random, script: &Script, crate_number: u8) -> Vec<u8> 
     let block = script.board().block();
     let sent = frame_for(random, script, crate_number);
     let mut reply = good_reply(random, &sent);
+    if sent[4] == frames::RATES && random.chance(40) {
+        put_count_at_its_bound(random, &mut reply);
+        mend(&mut reply);
+        return reply.to_vec();
+    }
     match random.below(14) {
         // One byte changed, the CRC left.
         0 => reply[random.below(28)] ^= 1 << random.below(8),
@@ -387,7 +443,7 @@ fn odd_reply(random: &mut Random, script: &Script, crate_number: u8) -> Vec<u8> 
 }
 
 fn some_code(random: &mut Random) -> u8 {
-    random.choose(&[frames::DACS, frames::ENABLES, frames::PRESCALING, frames::PING])
+    random.choose(&[frames::DACS, frames::ENABLES, frames::PRESCALING, frames::PING, frames::RATES])
 }
 
 /// Changes something in a reply; the CRC is to be made right again.
@@ -399,7 +455,7 @@ fn change(random: &mut Random, reply: &mut Frame, kind: usize) {
         // Addresses not exchanged.
         6 => reply.swap(1, 2),
         // Another code.
-        7 => reply[4] = random.choose(&[0, 1, 2, 3, 4, 5, 255]),
+        7 => reply[4] = random.choose(&[0, 1, 2, 3, 4, 5, 6, 255]),
         // A DNA at its bound, or bytes after it.
         10 => {
             let dna = random.choose(&[ID_LIMIT - 1, ID_LIMIT, ID_LIMIT + 1, u64::MAX, 1 << 63]);
@@ -501,7 +557,8 @@ pub fn script(seed: u64, number: usize) -> Generated {
         1 => ("damaged", group, damaged),
         2 => ("bounds", group, bounds),
         3 | 4 => ("sessions", 2 * group + place - 3, sessions),
-        5 | 6 => ("passes", 2 * group + place - 5, passes),
+        5 => ("passes", group, passes),
+        6 => ("rates", group, rates::scripts),
         7 => ("runs", group, runs),
         8 => ("resets", group, resets),
         _ => ("far end", group, far_end::scripts),
@@ -513,7 +570,7 @@ pub fn script(seed: u64, number: usize) -> Generated {
 fn enter_some_state(random: &mut Random, script: &mut Script) {
     script.push(&power_up_line(random.number() % ID_LIMIT, random.word()));
     let mut block = quiet_block(random);
-    match random.below(6) {
+    match random.below(8) {
         0 => {}
         1 => {
             block[ACTIVE..].fill(0);
@@ -533,11 +590,21 @@ fn enter_some_state(random: &mut Random, script: &mut Script) {
             script.command(&Command::Write(&block));
             script.command(&Command::Reset(random.below(CRATES) as u8));
         }
+        // In a rate pass, idle or running.
+        5 | 6 => {
+            block[ACTIVE] = 0x0201;
+            script.command(&Command::Write(&block));
+            script.run_out();
+            if random.chance(50) {
+                script.command(&Command::Start(Events::Endless));
+            }
+            script.push(b"B");
+        }
         _ => script.command(&Command::Ping),
     }
 }
 
-/// Every length: commands, replies, measurements and lines.
+/// Every length: commands, replies, temperatures and lines.
 fn lengths(random: &mut Random, index: usize) -> Vec<u8> {
     let mut script = Script::new();
     let part = index / 5;
@@ -545,7 +612,7 @@ fn lengths(random: &mut Random, index: usize) -> Vec<u8> {
         0 | 1 => command_lengths(random, &mut script, 2 * part + index % 5),
         2 => reply_lengths(random, &mut script),
         3 => digit_counts(random, &mut script, part),
-        _ => measurement_lengths(random, &mut script, part),
+        _ => temperature_lengths(random, &mut script, part),
     }
     script.text
 }
@@ -591,14 +658,18 @@ fn command_lengths(random: &mut Random, script: &mut Script, part: usize) {
 
 /// Replies of 0 to 60 bytes: the good one cut or extended.
 fn reply_lengths(random: &mut Random, script: &mut Script) {
-    for ping in [false, true] {
+    for kind in PASS_KINDS {
         let mut block = random_block(random);
         block[ACTIVE..].fill(0x03FF);
         script.push(&power_up_line(random.number() % ID_LIMIT, random.word()));
         script.command(&Command::Write(&block));
-        if ping {
+        if kind != PassKind::Reprogramming {
             script.run_out();
-            script.command(&Command::Ping);
+        }
+        match kind {
+            PassKind::Reprogramming => {}
+            PassKind::Ping => script.command(&Command::Ping),
+            PassKind::Rates => script.push(b"B"),
         }
         for length in 0..=60 {
             let crate_number = (length % CRATES) as u8;
@@ -631,7 +702,7 @@ fn digit_counts(random: &mut Random, script: &mut Script, part: usize) {
             .map(|_| if zero { b'0' } else { random.choose(b"0123456789abcdefABCDEF") })
             .collect()
     };
-    for letter in *b"GPKTFNMSLDCRWXY" {
+    for letter in *b"GPKTFNMSLDCRBWXY" {
         for count in 0..=48 {
             let line = [&[letter][..], &digits(count, (count + part).is_multiple_of(2))].concat();
             script.push(&line);
@@ -663,16 +734,13 @@ fn digit_counts(random: &mut Random, script: &mut Script, part: usize) {
     script.push(&[b"D".to_vec(), digits(20_000, true)].concat());
 }
 
-/// Dynamic blocks with all counts of measurements.
-fn measurement_lengths(random: &mut Random, script: &mut Script, part: usize) {
+/// Dynamic blocks with all counts of temperatures.
+fn temperature_lengths(random: &mut Random, script: &mut Script, part: usize) {
     enter_some_state(random, script);
     let mut words = [0u16; 1025];
-    words[..blocks::MEASUREMENTS].copy_from_slice(&random_measurements(random));
-    for count in (part % 10..=490).step_by(10).chain([483, 484, 485, 1023, 1024, 1025]) {
-        script.push(&words_line(b'D', &words[..count]));
-    }
-    words[4] = 0xFFFF;
-    for count in [0, 4, 5, 483, 484, 485] {
+    words.fill_with(|| random.word());
+    let near = (0..=8).chain([483, 484, 485, 487, 1023, 1024, 1025]);
+    for count in (part % 10..=490).step_by(10).chain(near) {
         script.push(&words_line(b'D', &words[..count]));
     }
 }
@@ -746,9 +814,9 @@ fn bounds(random: &mut Random, index: usize) -> Vec<u8> {
         }
     }
     enter_some_state(random, &mut script);
-    for place in (first..blocks::MEASUREMENTS).step_by(stride) {
-        for value in [0x3FFF, 0x4000, 0xFFFF] {
-            measurements_with(random, &mut script, place, value);
+    for place in 0..TEMPERATURES {
+        for value in [0, 0x3FFF, 0x4000, 0xFFFF] {
+            temperatures_with(random, &mut script, place, value);
         }
     }
     for _ in 0..8 {
@@ -778,7 +846,7 @@ fn block_with(random: &mut Random, script: &mut Script, place: usize, value: u16
     if random.chance(20) {
         block[random.choose(&BOUNDED)] = random.word();
     }
-    if script.mode() != Mode::Idle || random.chance(20) {
+    if script.mode() != Mode::IDLE || random.chance(20) {
         if random.chance(50) && script.in_pass() {
             script.run_out();
         } else if !random.chance(10) {
@@ -797,13 +865,10 @@ fn block_with(random: &mut Random, script: &mut Script, place: usize, value: u16
     }
 }
 
-/// A dynamic block with this measurement at this place.
-fn measurements_with(random: &mut Random, script: &mut Script, place: usize, value: u16) {
-    let mut words = random_measurements(random);
+/// A dynamic block with this temperature at this place.
+fn temperatures_with(random: &mut Random, script: &mut Script, place: usize, value: u16) {
+    let mut words = random_temperatures(random);
     words[place] = value;
-    if random.chance(15) {
-        words[random.below(blocks::MEASUREMENTS)] = random.word();
-    }
     script.push(&words_line(b'D', &words));
     if random.chance(30) {
         far_end::read_back(random, script, b'D');
@@ -848,13 +913,16 @@ fn sessions(random: &mut Random, _index: usize) -> Vec<u8> {
 /// One valid line that suits the state in most cases.
 fn session_line(random: &mut Random, script: &Script) -> Vec<u8> {
     let board = script.board();
+    let Mode { run, pass } = board.mode();
     // power-up, command, clock, trigger, reply, time-up, frame, number,
-    // static, list, message, dynamic, far end
-    let weights = match board.mode() {
-        Mode::Idle => [4, 60, 8, 6, 3, 3, 3, 4, 3, 5, 8, 4, 35],
-        Mode::Running(_) => [1, 25, 12, 50, 2, 2, 1, 2, 3, 3, 4, 5, 35],
-        Mode::Reprogramming => [1, 12, 3, 2, 60, 14, 8, 8, 2, 2, 3, 2, 35],
-        Mode::Ping => [2, 12, 3, 2, 70, 16, 8, 8, 2, 2, 3, 2, 35],
+    // static, list, message, dynamic, far end, rate pass
+    let weights = match (pass, run) {
+        (None, None) => [4, 60, 8, 6, 3, 3, 3, 4, 3, 5, 8, 4, 35, 8],
+        (None, Some(_)) => [1, 25, 12, 50, 2, 2, 1, 2, 3, 3, 4, 5, 35, 6],
+        (Some(PassKind::Reprogramming), _) => [1, 12, 3, 2, 60, 14, 8, 8, 2, 2, 3, 2, 35, 2],
+        (Some(PassKind::Ping), _) => [2, 12, 3, 2, 70, 16, 8, 8, 2, 2, 3, 2, 35, 2],
+        (Some(PassKind::Rates), None) => [1, 12, 4, 4, 50, 12, 6, 6, 2, 2, 3, 4, 30, 3],
+        (Some(PassKind::Rates), Some(_)) => [1, 12, 8, 25, 50, 12, 6, 6, 2, 2, 3, 4, 30, 3],
     };
     match random.weighted(&weights) {
         0 => {
@@ -878,18 +946,28 @@ fn session_line(random: &mut Random, script: &Script) -> Vec<u8> {
             bytes_line(b'M', &[ordinal])
         }
         11 => dynamic_line(random),
-        _ => far_end::line(random, script),
+        12 => far_end::line(random, script),
+        _ => b"B".to_vec(),
     }
 }
 
-/// Measurements, now and then with any word at one place or too few.
+/// Four temperatures, without bounds.
+fn random_temperatures(random: &mut Random) -> [u16; TEMPERATURES] {
+    [0; TEMPERATURES].map(|_| random.word())
+}
+
+/// A dynamic block with some four temperatures.
+fn temperatures_line(random: &mut Random) -> Vec<u8> {
+    words_line(b'D', &random_temperatures(random))
+}
+
+/// The same, now and then with another number of words.
 fn dynamic_line(random: &mut Random) -> Vec<u8> {
-    let mut words = random_measurements(random).to_vec();
-    match random.below(6) {
-        0 => words[random.below(blocks::MEASUREMENTS)] = random.word(),
-        1 => words.truncate(random.below(486)),
-        _ => {}
+    if random.chance(80) {
+        return temperatures_line(random);
     }
+    let mut words = random_temperatures(random).to_vec();
+    words.resize(random.choose(&[0, 1, 2, 3, 5, 6, 7, 8, blocks::MEASUREMENTS]), random.word());
     words_line(b'D', &words)
 }
 
@@ -937,9 +1015,9 @@ fn session_block(random: &mut Random) -> [u16; configuration::WORDS] {
 /// A valid command that suits the state in most cases.
 fn suited_command<'a>(random: &mut Random, board: &Board, block: &'a [u16]) -> Command<'a> {
     let weights = match board.mode() {
-        Mode::Idle if board.fresh() => [4, 8, 40, 3, 8, 12],
-        Mode::Idle => [4, 40, 12, 3, 10, 10],
-        Mode::Running(_) => [4, 3, 3, 20, 3, 8],
+        Mode::IDLE if board.fresh() => [4, 8, 40, 3, 8, 12],
+        Mode::IDLE => [4, 40, 12, 3, 10, 10],
+        Mode { run: Some(_), pass: None } => [4, 3, 3, 20, 3, 8],
         _ => [4, 4, 4, 4, 4, 8],
     };
     match random.weighted(&weights) {
@@ -981,7 +1059,7 @@ fn session_command(random: &mut Random, board: &Board) -> Vec<u8> {
     words_line(b'C', &words)
 }
 
-/// Long passes of both kinds with replies of all kinds.
+/// Long passes of all kinds with replies of all kinds.
 fn passes(random: &mut Random, _index: usize) -> Vec<u8> {
     let mut script = Script::new();
     script.push(&power_up_line(random.number() % ID_LIMIT, random.word()));
@@ -989,12 +1067,7 @@ fn passes(random: &mut Random, _index: usize) -> Vec<u8> {
         if random.chance(50) {
             script.push(&clock_line(random));
         }
-        let block = random_block(random);
-        if random.chance(60) {
-            script.command(&Command::Write(&block));
-        } else {
-            script.command(&Command::Ping);
-        }
+        begin_pass(random, &mut script);
         for crate_number in 0..4 {
             if random.chance(50) {
                 script.push(&bytes_line(b'F', &[crate_number]));
@@ -1003,11 +1076,29 @@ fn passes(random: &mut Random, _index: usize) -> Vec<u8> {
         }
         pass_lines(random, &mut script);
         lines_after_pass(random, &mut script);
-        if let Mode::Running(_) = script.mode() {
+        if script.is_running() {
             script.command(&Command::Stop);
         }
     }
     script.text
+}
+
+/// Begins a pass of some kind: a rate pass over the boards of a new block, idle or
+/// in a run.
+fn begin_pass(random: &mut Random, script: &mut Script) {
+    let block = random_block(random);
+    match random.choose(&PASS_KINDS) {
+        PassKind::Reprogramming => script.command(&Command::Write(&block)),
+        PassKind::Ping => script.command(&Command::Ping),
+        PassKind::Rates => {
+            script.command(&Command::Write(&block));
+            script.run_out();
+            if random.chance(50) {
+                script.command(&some_start(random));
+            }
+            script.push(b"B");
+        }
+    }
 }
 
 /// Lines that show what a pass left.
@@ -1022,6 +1113,8 @@ fn lines_after_pass(random: &mut Random, script: &mut Script) {
         script.push(&[letter]);
         far_end::read_back(random, script, letter);
     }
+    script.push(&temperatures_line(random));
+    far_end::read_back(random, script, b'D');
     for crate_number in 0..5 {
         script.push(&bytes_line(b'F', &[crate_number]));
         script.push(&bytes_line(b'N', &[crate_number]));
@@ -1057,6 +1150,9 @@ fn pass_lines(random: &mut Random, script: &mut Script) {
                 4 => b"S".to_vec(),
                 5 => clock_line(random),
                 6 | 7 => session_command(random, script.board()),
+                8 | 9 => trigger_line(random),
+                10 => dynamic_line(random),
+                11 => b"B".to_vec(),
                 _ => far_end::line(random, script),
             };
             script.push(&other);
@@ -1070,13 +1166,13 @@ fn runs(random: &mut Random, index: usize) -> Vec<u8> {
     script.push(&power_up_line(random.number() % ID_LIMIT, random.word()));
     let mut block = random_block(random);
     block[ACTIVE..].fill(0);
-    let measurements = words_line(b'D', &random_measurements(random));
+    let dynamic = temperatures_line(random);
     match index {
-        0 => long_time(random, &mut script, &block, &measurements),
-        1 => many_events(random, &mut script, &block, &measurements),
+        0 => long_time(random, &mut script, &block, &dynamic),
+        1 => many_events(random, &mut script, &block, &dynamic),
         _ => {
             for _ in 0..1 + random.below(4) {
-                short_run(random, &mut script, &block, &measurements);
+                short_run(random, &mut script, &block, &dynamic);
             }
         }
     }
@@ -1084,27 +1180,27 @@ fn runs(random: &mut Random, index: usize) -> Vec<u8> {
 }
 
 /// The 48-bit counters pass 2^48: 65,537 steps of 2^32 - 1.
-fn long_time(random: &mut Random, script: &mut Script, block: &[u16], measurements: &[u8]) {
+fn long_time(random: &mut Random, script: &mut Script, block: &[u16], dynamic: &[u8]) {
     script.command(&Command::Write(block));
     script.push(b"K00000010");
     script.command(&Command::Start(Events::Endless));
     for step in 0..65_545 {
         script.push(b"KFFFFFFFF");
         if step % 8192 == 0 || step > 65_530 {
-            script.push(measurements);
+            script.push(dynamic);
             far_end::read_back(random, script, b'D');
             script.push(b"S");
             far_end::read_back(random, script, b'S');
         }
     }
     script.push(b"K0000FFFF");
-    script.push(measurements);
+    script.push(dynamic);
     script.command(&Command::Stop);
-    script.push(measurements);
+    script.push(dynamic);
 }
 
 /// 70,000 events asked for, all given, and one more.
-fn many_events(random: &mut Random, script: &mut Script, block: &[u16], measurements: &[u8]) {
+fn many_events(random: &mut Random, script: &mut Script, block: &[u16], dynamic: &[u8]) {
     script.command(&Command::Write(block));
     script.command(&Command::Start(Events::Counted(70_000)));
     for event in 0..70_001 {
@@ -1115,20 +1211,20 @@ fn many_events(random: &mut Random, script: &mut Script, block: &[u16], measurem
         }
         if event % 10_000 == 9_999 || event >= 69_997 {
             script.push(b"K00000064");
-            script.push(measurements);
+            script.push(dynamic);
             script.push(b"L");
         }
     }
     // Refused triggers did not count: give what is left, and one more.
-    while let Mode::Running(_) = script.mode() {
+    while script.is_running() {
         script.push(b"G0400000000000000");
     }
-    script.push(measurements);
+    script.push(dynamic);
     script.push(b"G0400000000000000");
 }
 
 /// A run of 0 to 200 lines.
-fn short_run(random: &mut Random, script: &mut Script, block: &[u16], measurements: &[u8]) {
+fn short_run(random: &mut Random, script: &mut Script, block: &[u16], dynamic: &[u8]) {
     if random.chance(15) {
         script.command(&Command::Ping);
         script.run_out();
@@ -1145,20 +1241,21 @@ fn short_run(random: &mut Random, script: &mut Script, block: &[u16], measuremen
         Events::Endless
     }));
     for _ in 0..random.below(200) {
-        run_line(random, script, measurements);
-        if script.in_pass() {
+        run_line(random, script, dynamic);
+        if script.in_pass() && random.chance(30) {
             script.run_out();
         }
     }
+    script.run_out();
     script.command(&Command::Start(Events::Endless));
     script.command(&Command::Stop);
-    script.push(measurements);
+    script.push(dynamic);
 }
 
 /// One line of a run.
-fn run_line(random: &mut Random, script: &mut Script, measurements: &[u8]) {
-    match random.below(22) {
-        0 => script.push(measurements),
+fn run_line(random: &mut Random, script: &mut Script, dynamic: &[u8]) {
+    match random.below(23) {
+        0 => script.push(dynamic),
         1 => script.push(b"S"),
         2 => script.push(b"L"),
         3 => script.push(&bytes_line(b'M', &[random.below(4) as u8])),
@@ -1171,6 +1268,8 @@ fn run_line(random: &mut Random, script: &mut Script, measurements: &[u8]) {
             let line = far_end::line(random, script);
             script.push(&line);
         }
+        11 => script.push(b"B"),
+        12 if script.in_pass() => pass_line(random, script, 80),
         _ => {
             let line = trigger_line(random);
             script.push_styled(random, &line);
@@ -1192,8 +1291,10 @@ fn resets(random: &mut Random, _index: usize) -> Vec<u8> {
             ping_with_resets(random, &mut script);
         }
         write_with_resets(random, &mut script);
-        if random.chance(20) {
-            ping_with_resets(random, &mut script);
+        match random.below(10) {
+            0 | 1 => ping_with_resets(random, &mut script),
+            2 | 3 => rates_with_resets(random, &mut script),
+            _ => {}
         }
         if random.chance(75) {
             reset_lines(random, &mut script);
@@ -1201,7 +1302,7 @@ fn resets(random: &mut Random, _index: usize) -> Vec<u8> {
         }
         script.command(&some_start(random));
         // Refused: the block still reads back, and a start needs a new write.
-        if script.mode() == Mode::Idle {
+        if script.mode() == Mode::IDLE {
             if random.chance(80) {
                 script.push(b"S");
                 far_end::read_back(random, &mut script, b'S');
@@ -1227,7 +1328,7 @@ fn reset_lines(random: &mut Random, script: &mut Script) {
                 2 => bytes_line(b'M', &[random.below(2) as u8]),
                 3 => bytes_line(b'N', &[random.below(CRATES) as u8]),
                 4 => bytes_line(b'F', &[random.below(CRATES) as u8]),
-                5 => words_line(b'D', &random_measurements(random)),
+                5 => temperatures_line(random),
                 _ => clock_line(random),
             };
             script.push(&line);
@@ -1257,12 +1358,13 @@ fn reset_line(random: &mut Random) -> Vec<u8> {
     words_line(b'C', &words)
 }
 
-/// Now and then a ping with its pass, or a refused write: a start after a reset
+/// Now and then a ping or rate pass, or a refused write: a start after a reset
 /// still gets 10 (02, b: "no accepted write since").
 fn no_accepted_write(random: &mut Random, script: &mut Script) {
-    match random.below(6) {
+    match random.below(7) {
         0 => ping_with_resets(random, script),
         1 => script.push(&refused_write_line(random)),
+        2 => rates_with_resets(random, script),
         _ => {}
     }
 }
@@ -1282,6 +1384,12 @@ fn refused_write_line(random: &mut Random) -> Vec<u8> {
 /// A ping and its pass.
 fn ping_with_resets(random: &mut Random, script: &mut Script) {
     script.command(&Command::Ping);
+    pass_with_resets(random, script);
+}
+
+/// A rate pass, which leaves fresh alone (02, i).
+fn rates_with_resets(random: &mut Random, script: &mut Script) {
+    script.push(b"B");
     pass_with_resets(random, script);
 }
 
@@ -1308,6 +1416,9 @@ fn run_with_resets(random: &mut Random, script: &mut Script) {
     for _ in 0..random.below(15) {
         if random.chance(30) {
             reset_lines(random, script);
+        }
+        if random.chance(4) {
+            rates_with_resets(random, script);
         }
         let line = trigger_line(random);
         script.push(&line);
@@ -1351,27 +1462,62 @@ pub fn pass(seed: u64, number: usize) -> Pass {
     let mut script = Script::new();
     script.push(&power_up_line(random.number() % ID_LIMIT, random.word()));
     script.push(&clock_line(random));
-    // Before a write, a ping leaves a list; before a ping, a write leaves flags,
-    // records and, where no crate reset comes between, fresh.
-    let ping = random.chance(50);
-    if random.chance(60) {
-        if ping {
-            script.command(&Command::Write(&random_block(random)));
-        } else {
+    match random.choose(&PASS_KINDS) {
+        // A write before leaves flags, records and, where no reset comes between, fresh.
+        PassKind::Ping => {
+            let block = random_block(random);
+            earlier_pass(random, &mut script, &Command::Write(&block));
             script.command(&Command::Ping);
         }
-        serve_pass(random, &mut script, 80);
-        if random.chance(50) {
-            script.command(&Command::Reset(random.below(CRATES) as u8));
+        // A ping before leaves a list.
+        PassKind::Reprogramming => {
+            earlier_pass(random, &mut script, &Command::Ping);
+            script.command(&Command::Write(&random_block(random)));
         }
-    }
-    if ping {
-        script.command(&Command::Ping);
-    } else {
-        script.command(&Command::Write(&random_block(random)));
+        PassKind::Rates => begin_rates(random, &mut script),
     }
     let before = script.text.split(|&byte| byte == b'\n').map(<[u8]>::to_vec).collect();
     Pass { before, items: pass_items(random, &mut script), after: closing_lines(random) }
+}
+
+/// In most cases, a pass that this command begins, then now and then a rate pass
+/// or a crate reset.
+fn earlier_pass(random: &mut Random, script: &mut Script, command: &Command) {
+    if random.chance(40) {
+        return;
+    }
+    script.command(command);
+    serve_pass(random, script, 80);
+    if random.chance(30) {
+        script.push(b"B");
+        serve_pass(random, script, 80);
+    }
+    if random.chance(50) {
+        script.command(&Command::Reset(random.below(CRATES) as u8));
+    }
+}
+
+/// Begins a rate pass over the boards of some block, idle or in a run; now and
+/// then a ping and a rate pass before it leave a list and rates (02, i).
+fn begin_rates(random: &mut Random, script: &mut Script) {
+    if random.chance(30) {
+        script.command(&Command::Ping);
+        serve_pass(random, script, 90);
+    }
+    script.command(&Command::Write(&random_block(random)));
+    serve_pass(random, script, 90);
+    if random.chance(40) {
+        script.push(b"B");
+        serve_pass(random, script, 80);
+    }
+    if random.chance(60) {
+        script.command(&some_start(random));
+        for _ in 0..random.below(3) {
+            script.push(&clock_line(random));
+            script.push(&trigger_line(random));
+        }
+    }
+    script.push(b"B");
 }
 
 /// The items of the pass that is under way, in a mixed order: none, some, or
@@ -1416,7 +1562,7 @@ fn closing_lines(random: &mut Random) -> Vec<Vec<u8>> {
             lines.push(bytes_line(b'M', &[ordinal]));
         }
         lines.push(b"S".to_vec());
-        lines.push(words_line(b'D', &random_measurements(random)));
+        lines.push(temperatures_line(random));
         lines.push(command_line(&Command::Start(Events::Endless)));
         lines.push(b"G0400000000000000".to_vec());
         lines.push(command_line(&Command::Stop));
@@ -1452,8 +1598,9 @@ mod tests {
         let mut script = Script::new();
         let mut block = random_block(random);
         block[ACTIVE..].fill(0x03FF);
-        for command in [Command::Write(&block), Command::Ping] {
-            script.command(&command);
+        let commands = [&Command::Write(&block), &Command::Ping].map(command_line);
+        for begin in [&commands[0][..], &commands[1], b"B", b"B "] {
+            script.push(begin);
             for crate_number in (0..CRATES as u8).cycle().take(CRATES * 3 * BOARDS_PER_CRATE) {
                 let Some(sent) = script.frame(crate_number).copied() else {
                     continue;
@@ -1462,7 +1609,7 @@ mod tests {
                 script.push_styled(random, &reply_line(crate_number, &reply));
                 assert!(script.answers.starts_with(b"0 good "));
             }
-            assert_eq!(script.mode(), Mode::Idle);
+            assert_eq!(script.mode(), Mode::IDLE);
         }
         script.command(&Command::Ping);
         assert!(script.frame(0).is_some());

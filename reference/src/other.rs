@@ -118,12 +118,13 @@ pub fn lines(text: &[u8]) -> Vec<&[u8]> {
     lines
 }
 
-/// A line of the script that printed something: its number, from 0, and the
-/// state of the model's board before it.
+/// A line of the script that printed something: its number, from 0, the state of
+/// the model's board before it, and what the board was doing after it.
 pub struct Served {
     pub number: usize,
     pub mode: Mode,
     pub fresh: bool,
+    pub mode_after: Mode,
 }
 
 /// What the model prints on this script, and for each printed line the script's
@@ -135,7 +136,8 @@ pub fn model(script: &[u8]) -> (Vec<u8>, Vec<Served>) {
     for (number, line) in lines(script).into_iter().enumerate() {
         let (mode, fresh) = (replay.board().mode(), replay.board().fresh());
         if replay.line(line, &mut printed) {
-            served.push(Served { number, mode, fresh });
+            let mode_after = replay.board().mode();
+            served.push(Served { number, mode, fresh, mode_after });
         }
     }
     (printed, served)

@@ -100,6 +100,10 @@ impl Replay {
             b'R' => self.reply(out),
             b'T' => self.time_up(out),
             b'F' => self.first_frame(out),
+            b'B' => match self.board.begin_rate_pass() {
+                Ok(()) => out.push(b'0'),
+                Err(refusal) => print_refusal(refusal, out),
+            },
             b'N' => match self.board.frames_sent(self.byte(0)) {
                 Ok(number) => print_text(out, format_args!("0 {number}")),
                 Err(refusal) => print_refusal(refusal, out),
@@ -312,7 +316,7 @@ fn right_count(letter: u8, count: usize) -> bool {
         b'G' => count == 16,
         b'R' => count >= 2 && count.is_multiple_of(2),
         b'T' | b'F' | b'N' | b'M' => count == 2,
-        b'S' | b'L' => count == 0,
+        b'B' | b'S' | b'L' => count == 0,
         b'W' => count >= 2,
         b'X' => count.is_multiple_of(2),
         b'Y' => count % 4 == 2,
@@ -443,6 +447,16 @@ mod tests {
         String::from_utf8(digits).unwrap()
     }
 
+    /// What three time-ups print for each of these boards, the only ones of their
+    /// crates.
+    fn timed_out(boards: &[(usize, usize, u8)]) -> String {
+        let lines = boards.iter().map(|&(crate_number, board, code)| {
+            let again = format!("0 again {}\n", frame(crate_number, board, code));
+            format!("{again}{again}0 failed done")
+        });
+        lines.collect::<Vec<_>>().join("\n")
+    }
+
     /// Obeys the lines and compares what each prints.
     fn check_lines(rows: &[(&str, &str)]) {
         let lines: Vec<&str> = rows.iter().map(|row| row.0).collect();
@@ -505,17 +519,55 @@ mod tests {
         words[432] = "0400";
         let write = format!("C00400002000100000000{}", words.concat());
         assert_eq!(run(&write), "8 0 432\n");
-        let mut words = vec!["3FFF"; 484];
-        words[480] = "4000";
-        assert_eq!(run(&format!("D{}", words.concat())), "8 480\n");
-        words[480] = "3fff";
-        let printed = run(&format!("P00000000000000010002\nK00000003\nD{}", words.concat()));
+    }
+
+    #[test]
+    fn dynamic_blocks() {
+        let printed = run("P00000000000000010002\nK00000003\nD FFFF 4000 8000 3fff");
         let expected = format!(
-            "0\n0\n0 0000000000000001000200000000000000000003{}{}",
+            "0\n0\n0 0000000000000001000200000000000000000003{}FFFF400080003FFF{}\n",
             "0000".repeat(4),
-            "3FFF".repeat(484)
+            "0000".repeat(480)
         );
-        assert_eq!(printed.trim_end(), expected);
+        assert_eq!(printed, expected);
+        for words in (0..=8).chain([483, 484, 485, 487, 1024]).filter(|&words| words != 4) {
+            assert_eq!(run(&format!("D{}", "FFFF".repeat(words))), "6\n");
+        }
+        assert_eq!(run("D 0000 0000 0000 000"), "?\n");
+    }
+
+    #[test]
+    fn rate_passes() {
+        // Board 3 of crate 0 answers, board 5 of crate 2 does not.
+        let write = format!("C00400002000100000000{}0008000000200000", "0000".repeat(432));
+        let [sound, dead] = [(0, 3), (2, 5)].map(|(c, board)| frame(c, board, frames::RATES));
+        let rates = "3FFFFFFF 00000001 00000002 00000003 00011170 FF";
+        let reply = format!("R00 40C00309 05 {rates} 07 DD");
+        let zeros = format!("0 {}", "0000".repeat(498));
+        let dynamic = format!(
+            "0 {}3FFFFFFF0000000100000002000000030001117000FF0007{}",
+            "0000".repeat(11 + 7 + 36),
+            "0000".repeat(36 * 12)
+        );
+        check_lines(&[
+            ("B0", "?"),
+            ("B", "0"),
+            (&write, "0 441 write"),
+            ("B", "9"),
+            ("T00\nT00\nT00\nT02\nT02\nT02", &timed_out(&[(0, 3, 1), (2, 5, 1)])),
+            ("B ", "0"),
+            ("B", "9"),
+            ("F00", &format!("0 {sound}")),
+            (&reply, "0 good done"),
+            ("D0000000000000000", &zeros),
+            ("L\nM00\nC00400004000100000000", "9\n9\n9 5"),
+            ("T02", &format!("0 again {dead}")),
+            ("T02", &format!("0 again {dead}")),
+            ("T02", "0 failed done"),
+            ("D0000000000000000", &dynamic),
+            ("B", "0"),
+            ("D0000000000000000", &dynamic),
+        ]);
     }
 
     #[test]

@@ -1,5 +1,5 @@
--- Demand 3 (`demand-3`): after an accepted write or ping, any order of replies, time-ups and fetches of first frames gets what the crates get
--- one by one.
+-- Demand 3 (`demand-3`): after an accepted write, ping or begin of a rate pass, any order of replies, time-ups and fetches of first frames gets what the
+-- crates get one by one.
 -- Assumes nothing.
 use Prim.Native.Nat.{ℕ, _<_}
 use mathlib.Core.Path.{_≡_, refl, sym, ap, ap₂, _∙_, subst}
@@ -14,12 +14,13 @@ use Rattle.cells.specs.Order.{only, from, ordered}
 use Rattle.cells.proofs.Order.{only-ordered}
 use Rattle.cells.proofs.Cells.{turned, in-order-out, in-order-end, out-from, out, end}
 use Rattle.any_order.specs.Steps.{Lending, Result}
-use Rattle.any_order.specs.AnyOrder.{Item, ItemResult, itemCrate, resultCrate, Begin, Accepted, startOf, begunBoard}
+use Rattle.any_order.specs.AnyOrder.{Item, ItemResult, itemCrate, resultCrate, Begin, Accepted, startOf, runsAsBefore, begunBoard}
 use Rattle.any_order.specs.AnyOrder.{outstanding, results, final, framesIn, framesOn, allDone, refusedAll, AnyOrder}
 use Rattle.any_order.proofs.Served.{noSuch}
-use Rattle.any_order.proofs.Begun.{begunCrates, four, start-is, still-after}
+use Rattle.any_order.proofs.Begun.{begunCrates, four, start-is, runs-as-before}
 use Rattle.any_order.proofs.OneCrate.{stepCells, final-is, results-are, crates-are, alone}
 use Rattle.any_order.proofs.SentOut.{in-pass, failures-are, records-given, records-most, list-is, list-given, list-begun}
+use Rattle.any_order.proofs.RatesOut.{rates-given, rates-held}
 
 turned-refused : (f : ℕ → Crate → Lending → Result × Crate) (xs : List Item) → turned noCrate f noSuch xs ≡ refusedAll xs
 unfolding turned refusedAll
@@ -81,15 +82,16 @@ module _ (β : Board) (g : Begin) (a : Accepted β g) (xs : List Item) where
   rest-is : final start xs ≡ begunBoard β g (final start xs .crates)
   rest-is = final-is β g a xs ∙ ap (begunBoard β g) (sym (crates-are β g a xs))
 
-  -- the board is idle once all four are done
-  idle-is : isIdle (final start xs) ≡ allDone β g xs
-  idle-is =
-      ap₂ (λ r p. not r && not p)
-      (ap (λ (γ : Board). isRunning (γ .run)) (final-is β g a xs) ∙ still-after β g a _)
-      (in-pass β g a xs)
-      ∙ double-not (allDone β g xs)
+  -- a run is on as before, and the board is idle once all four are done and none is
+  running-is : isRunning (final start xs .run) ≡ runsAsBefore β g
+  running-is = ap (λ (γ : Board). isRunning (γ .run)) (final-is β g a xs) ∙ runs-as-before β g a _
 
--- whatever board, whatever accepted write or ping, and whatever comes then
+  idle-is : isIdle (final start xs) ≡ (not (runsAsBefore β g) && allDone β g xs)
+  idle-is =
+      ap₂ (λ r p. not r && not p) running-is (in-pass β g a xs)
+      ∙ ap (λ (d : Bool). not (runsAsBefore β g) && d) (double-not (allDone β g xs))
+
+-- whatever board, whatever accepted begin of a pass, and whatever comes then
 pub demand-3 : (β : Board) (g : Begin) → Accepted β g → (xs : List Item) → AnyOrder β g xs
 demand-3 β g a xs =
     record {
@@ -105,6 +107,9 @@ demand-3 β g a xs =
       records-kept = failures-are β g a xs;
       list = list-given β g a xs;
       list-kept = list-is β g a xs;
+      rates = rates-given β g a xs;
+      rates-kept = rates-held β g a xs;
       rest = rest-is β g a xs;
+      running = running-is β g a xs;
       idle = idle-is β g a xs;
     }

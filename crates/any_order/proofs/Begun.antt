@@ -1,4 +1,5 @@
--- An accepted write or ping begins the pass that its words say (`start-is`), on each of the four crates (`crate-begun`), while no run is on (`still`).
+-- An accepted write, ping or begin of a rate pass begins the pass that it says (`start-is`), on each of the four crates (`crate-begun`), while no other
+-- pass is under way (`none-under-way`), and a run is on as before (`runs-as-before`).
 -- Assumes nothing.
 use Prim.Native.Nat.{ℕ, zero, suc, _<_}
 use mathlib.Core.Path.{_≡_, refl, sym, ap, _∙_, subst}
@@ -7,7 +8,12 @@ use mathlib.Core.Bool.{Bool, true, false, not, _&&_, cond}
 use native.Mathlib.Omega.{arith}
 use lib.ListN.{length, getD}
 use lib.Dec.{ltb}
+use Rattle.refusals.specs.Tables.{given}
+use Rattle.refusals.proofs.Tables.{given≢refused}
+use Rattle.commands.specs.declared.Command.{Command}
 use Rattle.commands.specs.declared.Command.the-variants.{Write, Ping}
+use Rattle.acceptance.specs.Acceptance.{notNow}
+use Rattle.acceptance.specs.declared.Status.{Status}
 use Rattle.run.specs.Run.{isRunning}
 use Rattle.crate_pass.specs.Crate.{nextBoard, firstCode, sentAt, begunCrate}
 use Rattle.crate_pass.specs.declared.PassKind.{PassKind}
@@ -16,10 +22,12 @@ use Rattle.four_crates.specs.FourCrates.{noCrate, inPass, begunAll}
 use Rattle.command_reader.specs.Reading as reading
 use Rattle.acceptance.proofs.Deciding.{obeyed-now, obeyed-read}
 use Rattle.board.specs.State.{crateAt, statusOf, withCrates}
-use Rattle.board.specs.Commands.{written, pinged, afterCommand}
+use Rattle.board.specs.Commands.{boardAnswer, written, pinged, afterCommand}
+use Rattle.board.specs.RatePass.{ratesBegun, beginAnswer, afterBegin}
+use Rattle.board.proofs.RatePass.{begin-refused}
 use Rattle.board.specs.declared.Board.{Board}
 use Rattle.any_order.specs.Steps.{Step, step, steps, Pass, first}
-use Rattle.any_order.specs.AnyOrder.{Begin, write, ping, Accepted, startOf, kindOf, storedBlock, wordOf, begunBoard, stepOf}
+use Rattle.any_order.specs.AnyOrder.{Begin, write, ping, rates, Accepted, startOf, kindOf, storedBlock, wordOf, runsAsBefore, begunBoard, stepOf}
 use Rattle.any_order.proofs.Places.{first-at, begun-todo}
 use Rattle.any_order.proofs.Follows.{view-first, view-begun, fit-begun}
 use Rattle.any_order.proofs.Frames.{bound-begun}
@@ -45,18 +53,33 @@ block-read : (β : Board) (w : List ℕ) → Accepted β (write w) → storedBlo
 block-read β w e = rw (obeyed-read w (statusOf β) Write e)
 
 pub start-is : (β : Board) (g : Begin) → Accepted β g → startOf β g ≡ begunBoard β g (begunCrates β g)
-unfolding begunBoard written pinged
+unfolding begunBoard written pinged ratesBegun
 start-is β (write w) e = ap (afterCommand β (reading.blockOf w)) e ∙ ap (written β) (sym (block-read β w e))
 start-is β (ping w) e = ap (afterCommand β (reading.blockOf w)) e
+start-is β rates e = ap (afterBegin β) e
 
--- a command that asks for an idle board finds no run on
-idle-still : (running pass : Bool) → not (not running && pass) ≡ false → running ≡ false
+-- a command that asks for an idle board finds no run on, and no pass under way
+idle-still : (running pass : Bool) → not (not running && not pass) ≡ false → (running ≡ false) × (pass ≡ false)
 idle-still true pass e = absurd (let z : _≡_ {A = ℕ} 0 1 = cc in omega arith)
-idle-still false pass e = refl
+idle-still false true e = absurd (let z : _≡_ {A = ℕ} 0 1 = cc in omega arith)
+idle-still false false e = (refl, refl)
 
-pub still : (β : Board) (g : Begin) → Accepted β g → isRunning (β .run) ≡ false
-still β (write w) e = idle-still (isRunning (β .run)) (not (inPass (β .crates))) (obeyed-now w (statusOf β) Write e)
-still β (ping w) e = idle-still (isRunning (β .run)) (not (inPass (β .crates))) (obeyed-now w (statusOf β) Ping e)
+pub idle-before : (β : Board) (w : List ℕ) (c : Command) → ((s : Status) → notNow c s ≡ not (s .idle)) → boardAnswer β w ≡ given c
+    → (isRunning (β .run) ≡ false) × (inPass (β .crates) ≡ false)
+idle-before β w c asks e = idle-still (isRunning (β .run)) (inPass (β .crates)) (sym (asks (statusOf β)) ∙ obeyed-now w (statusOf β) c e)
+
+-- a begin that is accepted finds no pass under way
+begin-before : (β : Board) → beginAnswer β ≡ given tt → inPass (β .crates) ≡ false
+begin-before β e = go (inPass (β .crates)) refl
+  where
+    go : (t : Bool) → inPass (β .crates) ≡ t → inPass (β .crates) ≡ false
+    go true q = absurd (given≢refused (sym e ∙ begin-refused β q))
+    go false q = q
+
+pub none-under-way : (β : Board) (g : Begin) → Accepted β g → inPass (β .crates) ≡ false
+none-under-way β (write w) e = idle-before β w Write (λ s. refl) e .1
+none-under-way β (ping w) e = idle-before β w Ping (λ s. refl) e .1
+none-under-way β rates e = begin-before β e
 
 -- ---- each crate
 
@@ -93,31 +116,28 @@ runs-begun kind w k =
     view-first kind w (begunCrate kind w k) ∙ ap (λ (p : Pass). first (p .todo)) (view-begun kind w k) in
     record {
       fit = fit-begun kind w k;
-      bound = rw (view-begun kind w k, sent-begun kind w k) (bound-begun (steps kind w));
+      bound = rw (view-begun kind w k, sent-begun kind w k) (bound-begun kind (steps kind w));
       one = rw (first-is, sent-begun kind w k) (omega arith);
     }
 
--- ---- a board in a pass that has just begun: on four crates, while no run is on
+-- ---- a board in a pass that has just begun, on four crates
 
 pub record Begun (γ : Board) : Type 0 where
   pub four : length (γ .crates) ≡ 4
-  pub still : isRunning (γ .run) ≡ false
   pub runs : (c : ℕ) → c < 4 → Runs (γ .kind) (wordOf (γ .block) c) (crateAt γ c)
 
-still-begun : (β : Board) (g : Begin) (cs : List Crate) → isRunning (begunBoard β g cs .run) ≡ isRunning (β .run)
+-- whether a run is on
+pub runs-as-before : (β : Board) (g : Begin) → Accepted β g → (cs : List Crate) → isRunning (begunBoard β g cs .run) ≡ runsAsBefore β g
 unfolding begunBoard
-still-begun β (write w) cs = refl
-still-begun β (ping w) cs = refl
-
-pub still-after : (β : Board) (g : Begin) → Accepted β g → (cs : List Crate) → isRunning (begunBoard β g cs .run) ≡ false
-still-after β g a cs = still-begun β g cs ∙ still β g a
+runs-as-before β (write w) a cs = idle-before β w Write (λ s. refl) a .0
+runs-as-before β (ping w) a cs = idle-before β w Ping (λ s. refl) a .0
+runs-as-before β rates a cs = refl
 
 begun-board : (β : Board) (g : Begin) → Accepted β g → Begun (begunBoard β g (begunCrates β g))
 unfolding begunBoard
 begun-board β g a =
     record {
       four = four β g;
-      still = still-after β g a (begunCrates β g);
       runs = λ c h. let w = wordOf (storedBlock β g) c in
           subst (Runs (kindOf g) w) (sym (crate-begun β g c h)) (runs-begun (kindOf g) w (crateAt β c));
     }

@@ -8,22 +8,22 @@ use Rattle.refusals.specs.Writing.{writtenMeaning}
 use Rattle.refusals.specs.declared.Written.{Written}
 use Rattle.board.specs.SlowControl.{Fetches}
 use Rattle.board.specs.declared.Board.{Board}
-use Rattle.board.specs.declared.CommandResult.{CommandResult}
 use Rattle.cells.specs.Order.{only, ordered}
 use Rattle.cells.proofs.Order.{only-take, map-only, map-ordered}
 use Rattle.any_order.specs.Steps.{reply, timeUp, Request, handIn, fetch, Given}
-use Rattle.any_order.specs.AnyOrder.{Item, resultCrate, Begin, write, ping, Accepted, startOf, outcomeGiven}
+use Rattle.any_order.specs.AnyOrder.{Item, resultCrate, Begin, write, ping, rates, Accepted, startOf, outcomeGiven}
 use Rattle.any_order.specs.AnyOrder.{firstGiven, answerFor, bytesFor, boardAfterRequest}
 use Rattle.any_order.specs.AnyOrder.{resultOf, results, final, resultsAfter, boardAtEnd, inOrder, framesOn}
 use Rattle.any_order.specs.AnyOrder.{Seen, seenCrate, seenOf, fetchedBy, handedOutIn, fetchedIn, seenOn, firstFetched}
-use Rattle.any_order.specs.Calls.{BegunBy, Returned, replied, fetched, ServedItem, Keeps, boardThen, Chained, lastBoard, itemsOf, answerSeen, seen}
+use Rattle.any_order.specs.Calls.{Began, obeyed, begun, BegunBy, boardBegunBy}
+use Rattle.any_order.specs.Calls.{Returned, replied, fetched, ServedItem, Keeps, boardThen, Chained, lastBoard, itemsOf, answerSeen, seen}
 use Rattle.any_order.specs.Calls.{Sent, AnyOrderOfCalls}
 use Rattle.any_order.proofs.AnyOrder.{demand-3}
 
 -- ---- one item
 
 module _ (β : Board) (c : ℕ) where
-  answer-is : (request : Request) (lent : List ℕ) (r : Returned) (after : List ℕ) → Keeps β c request lent r after
+  pub answer-is : (request : Request) (lent : List ℕ) (r : Returned) (after : List ℕ) → Keeps β c request lent r after
       → answerSeen r ≡ answerFor β c request lent
   answer-is (handIn (reply bytes)) lent (replied r) after k = ap outcomeGiven (k .answer)
   answer-is (handIn timeUp) lent (replied r) after k = ap outcomeGiven (k .answer)
@@ -31,7 +31,7 @@ module _ (β : Board) (c : ℕ) where
   answer-is fetch lent (replied r) after k = absurd k
   answer-is fetch lent (fetched r) after k = ap firstGiven (k .answer)
 
-  bytes-are : (request : Request) (lent : List ℕ) (r : Returned) (after : List ℕ) → Keeps β c request lent r after
+  pub bytes-are : (request : Request) (lent : List ℕ) (r : Returned) (after : List ℕ) → Keeps β c request lent r after
       → after ≡ bytesFor β c request lent
   bytes-are (handIn (reply bytes)) lent (replied r) after k = k .bytes
   bytes-are (handIn timeUp) lent (replied r) after k = k .bytes
@@ -39,7 +39,7 @@ module _ (β : Board) (c : ℕ) where
   bytes-are fetch lent (replied r) after k = absurd k
   bytes-are fetch lent (fetched r) after k = k .output
 
-  board-is : (request : Request) (lent : List ℕ) (r : Returned) (after : List ℕ) → Keeps β c request lent r after
+  pub board-is : (request : Request) (lent : List ℕ) (r : Returned) (after : List ℕ) → Keeps β c request lent r after
       → boardThen β r ≡ boardAfterRequest β c request lent
   board-is (handIn (reply bytes)) lent (replied r) after k = k .board
   board-is (handIn timeUp) lent (replied r) after k = k .board
@@ -72,13 +72,21 @@ chained-final β (s ∷ ss) p =
 
 -- ---- the begin
 
-accepted-by : (β : Board) (g : Begin) (r : CommandResult) → BegunBy β g r → Accepted β g
-accepted-by β (write w) r b = sym (b .0 .answer) ∙ b .1
-accepted-by β (ping w) r b = sym (b .0 .answer) ∙ b .1
+accepted-by : (β : Board) (g : Begin) (r : Began) → BegunBy β g r → Accepted β g
+accepted-by β (write w) (obeyed r) b = sym (b .0 .answer) ∙ b .1
+accepted-by β (ping w) (obeyed r) b = sym (b .0 .answer) ∙ b .1
+accepted-by β rates (begun r) b = sym (b .0 .answer) ∙ b .1
+accepted-by β (write w) (begun r) b = absurd b
+accepted-by β (ping w) (begun r) b = absurd b
+accepted-by β rates (obeyed r) b = absurd b
 
-returned-by : (β : Board) (g : Begin) (r : CommandResult) → BegunBy β g r → r .board ≡ startOf β g
-returned-by β (write w) r b = b .0 .board
-returned-by β (ping w) r b = b .0 .board
+returned-by : (β : Board) (g : Begin) (r : Began) → BegunBy β g r → boardBegunBy r ≡ startOf β g
+returned-by β (write w) (obeyed r) b = b .0 .board
+returned-by β (ping w) (obeyed r) b = b .0 .board
+returned-by β rates (begun r) b = b .0 .board
+returned-by β (write w) (begun r) b = absurd b
+returned-by β (ping w) (begun r) b = absurd b
+returned-by β rates (obeyed r) b = absurd b
 
 module _ (β : Board) (g : Begin) (start : Board) (begins : start ≡ startOf β g) where
   -- what the caller sees of a series, and of crate c alone
@@ -106,26 +114,26 @@ module _ (β : Board) (g : Begin) (start : Board) (begins : start ≡ startOf β
   frames-of a c h ss p lent r after l w =
       ap₂ _++_ (fetched-of c lent r after w) (ap handedOutIn (seen-on c ss p)) ∙ sym (demand-3 β g a (itemsOf ss) .alone c h .handed lent l)
 
-pub demand-3-of-calls : (β : Board) (g : Begin) (r : CommandResult) → BegunBy β g r
-    → (one two : List ServedItem) → Chained (r .board) one → Chained (r .board) two
-    → itemsOf two ≡ inOrder (itemsOf one) → AnyOrderOfCalls β g (r .board) one two
+pub demand-3-of-calls : (β : Board) (g : Begin) (r : Began) → BegunBy β g r
+    → (one two : List ServedItem) → Chained (boardBegunBy r) one → Chained (boardBegunBy r) two
+    → itemsOf two ≡ inOrder (itemsOf one) → AnyOrderOfCalls β g (boardBegunBy r) one two
 demand-3-of-calls β g r b one two p q e =
     let a = accepted-by β g r b in
-    let start : r .board ≡ startOf β g = returned-by β g r b in
+    let start : boardBegunBy r ≡ startOf β g = returned-by β g r b in
     let claim = demand-3 β g a (itemsOf one) in
-    let seen-one = seen-of β g (r .board) start one p in
-    let last-one = board-of β g (r .board) start one p in
+    let seen-one = seen-of β g (boardBegunBy r) start one p in
+    let last-one = board-of β g (boardBegunBy r) start one p in
     record {
       claim = claim;
       seen-one = seen-one;
-      sent-one = λ c h. frames-of β g (r .board) start a c h one p;
+      sent-one = λ c h. frames-of β g (boardBegunBy r) start a c h one p;
       last-one = last-one;
-      seen-two = seen-of β g (r .board) start two q
+      seen-two = seen-of β g (boardBegunBy r) start two q
           ∙ ap (λ (xs : List Item). map seenOf (resultsAfter β g xs)) e
           ∙ ap (map seenOf) (claim .answers)
           ∙ map-ordered resultCrate seenCrate seenOf (λ t. refl) 4 (resultsAfter β g (itemsOf one))
           ∙ ap (ordered seenCrate 4) (sym seen-one);
       sent-two = λ c h lent s after l w.
-          frames-of β g (r .board) start a c h two q lent s after l w ∙ ap (framesOn β g c) e ∙ claim .frames c h;
-      last-two = board-of β g (r .board) start two q ∙ ap (boardAtEnd β g) e ∙ claim .state ∙ sym last-one;
+          frames-of β g (boardBegunBy r) start a c h two q lent s after l w ∙ ap (framesOn β g c) e ∙ claim .frames c h;
+      last-two = board-of β g (boardBegunBy r) start two q ∙ ap (boardAtEnd β g) e ∙ claim .state ∙ sym last-one;
     }

@@ -1,7 +1,7 @@
 -- The frame outstanding on a crate of the board is that of the crate's step (`outstanding-step`); the first frame's fetch on a crate is one on the pass
 -- (`fetch-follows`).
 -- Assumes nothing.
-use Prim.Native.Nat.{ℕ, _+_, _<_, _≤_}
+use Prim.Native.Nat.{ℕ, _<_, _≤_}
 use mathlib.Core.Path.{_≡_, refl, sym, ap, _∙_}
 use mathlib.Core.List.{List, [], _∷_, _++_, map}
 use mathlib.Core.Bool.{Bool, true, false, cond, _||_}

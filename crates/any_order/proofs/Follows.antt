@@ -11,28 +11,29 @@ use borrow.Author.Tests.{ltb-true, ltb-false, lt-ltb, le-ltb}
 use Rattle.refusals.specs.Tables.{Answer, given, refused}
 use Rattle.steps.specs.declared.Judged.{Judged}
 use Rattle.crate_pass.specs.Crate.{nextBoard, firstCode, asEntries, entriesIn, isDone, sentAt, begunCrate}
-use Rattle.crate_pass.specs.Crate.{placed, advanced, stepped, withEntry, withRecord, withOutcome}
+use Rattle.crate_pass.specs.Crate.{placed, advanced, stepped, noted, withReply, withRecord, withOutcome}
 use Rattle.crate_pass.specs.Crate.{afterGoodReply, afterFailedSend, moved, unlessRefused}
 use Rattle.crate_pass.specs.declared.PassKind.{PassKind}
-use Rattle.crate_pass.specs.declared.PassKind.the-variants.{Reprogramming, Ping}
+use Rattle.crate_pass.specs.declared.PassKind.the-variants.{Reprogramming, Ping, Rates}
 use Rattle.crate_pass.specs.declared.Outcome.{Outcome}
 use Rattle.crate_pass.specs.declared.Outcome.the-variants.{Good, Again, BoardFailed}
 use Rattle.crate_pass.specs.declared.Crate.{Crate}
 use Rattle.crate_pass.specs.declared.Moved.{Moved}
 use Rattle.crate_pass.proofs.Serving.{answer-none, answer-short, answer-moved, after-refused, after-given}
 use Rattle.crate_pass.proofs.Answered.{crateAnswer, crateAfter}
-use Rattle.any_order.specs.Steps.{Step, step, stepsFrom, steps, Event, judged, Found, nothing, Pass, pass, begun, Result, refusal}
+use Rattle.any_order.specs.Steps.{Step, step, stepsFrom, steps, Event, judged, Found, unanswered, Pass, pass, begun, Result, refusal}
 use Rattle.any_order.specs.Steps.{first, none, others, foundBy, handedOver, says, serveTo}
 use Rattle.any_order.specs.AnyOrder.{outcomeGiven, resultFor, stepOf}
-use Rattle.any_order.proofs.Places.{Code, one, two, three, four, first-code, later, todoAt, todo-here, todo-done, next-board-todo, begun-todo}
+use Rattle.any_order.proofs.Places.{Code, one, two, three, four, five, first-code, later, todoAt, todo-here, todo-done, next-board-todo, begun-todo}
 use Rattle.any_order.proofs.Places.{others-later, Place, at, past, place, first-at, none-at}
 use Rattle.any_order.proofs.Kept.{failedSteps, NoneFrom, failed-set, boardsOf, boards-noted}
+use Rattle.any_order.proofs.RatesByBoard.{twelves, twelve-judged}
 use Rattle.any_order.proofs.Sent.{countedOf, Numbered, counted-placed, counted-here}
 
 -- ---- the pass that a crate stands for
 
 unfoldable pub view : PassKind → ℕ → Crate → Pass
-view kind w k = pass (todoAt kind w (k .board) (k .code)) (k .tries) (failedSteps (k .failed) 10) (boardsOf kind (entriesIn k)) (countedOf k)
+view kind w k = pass (todoAt kind w (k .board) (k .code)) (k .tries) (failedSteps (k .failed) 10) (boardsOf kind (entriesIn k) (k .rates)) (countedOf k)
 
 -- the outstanding step is the first one left, and the crate is done when none is
 pub view-first : (kind : PassKind) (w : ℕ) (k : Crate) → stepOf k ≡ first (view kind w k .todo)
@@ -43,25 +44,30 @@ pub view-none : (kind : PassKind) (w : ℕ) (k : Crate) → isDone k ≡ none (v
 unfolding view
 view-none kind w k = none-at kind w (k .board) (k .code)
 
--- what holds of a crate in a pass: its code is one of the pass, it failed twice at most, and no board from its place on has failed
+-- what holds of a crate in a pass: its code is one of the pass, it failed twice at most, no board from its place on has failed, and in a
+-- rate pass it has twelve words for each board
 pub record Fit (kind : PassKind) (k : Crate) : Type 0 where
   pub code : Code kind (k .code)
   pub low : k .tries ≤ 2
   pub ten : length (k .failed) ≡ 10
   pub clear : NoneFrom (k .board) (k .failed)
+  pub words : kind ≡ Rates → length (k .rates) ≡ 120
 
 pub nonzero : {kind : PassKind} {code : ℕ} → Code kind code → code ≡ 0 → ⊥
 nonzero one q = omega arith
 nonzero two q = omega arith
 nonzero three q = omega arith
 nonzero four q = omega arith
+nonzero five q = omega arith
 
 -- ---- a crate as the pass begins
 
-boards-begun : (kind : PassKind) (w : ℕ) (k : Crate) → boardsOf kind (entriesIn (begunCrate kind w k)) ≡ replicate 10 nothing
-unfolding begunCrate asEntries
+boards-begun : (kind : PassKind) (w : ℕ) (k : Crate)
+    → boardsOf kind (entriesIn (begunCrate kind w k)) (begunCrate kind w k .rates) ≡ replicate 10 (unanswered kind)
+unfolding begunCrate asEntries twelves
 boards-begun Reprogramming w k = refl
 boards-begun Ping w k = refl
+boards-begun Rates w k = refl
 
 -- nothing is counted yet
 counted-begun : (kind : PassKind) (w : ℕ) (k : Crate) → countedOf (begunCrate kind w k) ≡ 0
@@ -72,11 +78,11 @@ counted-begun kind w k = go (ltb (nextBoard kind w 0) 10)
     go true = refl
     go false = refl
 
-pub view-begun : (kind : PassKind) (w : ℕ) (k : Crate) → view kind w (begunCrate kind w k) ≡ begun (steps kind w)
+pub view-begun : (kind : PassKind) (w : ℕ) (k : Crate) → view kind w (begunCrate kind w k) ≡ begun kind (steps kind w)
 unfolding view begunCrate failedSteps
 view-begun kind w k =
     ap₂ (λ (todo : List Step) (boards : List Found). pass todo 0 [] boards (countedOf (begunCrate kind w k))) (begun-todo kind w) (boards-begun kind w k)
-    ∙ ap (λ (n : ℕ). pass (steps kind w) 0 [] (replicate 10 nothing) n) (counted-begun kind w k)
+    ∙ ap (λ (n : ℕ). pass (steps kind w) 0 [] (replicate 10 (unanswered kind)) n) (counted-begun kind w k)
 
 no-code : (n j : ℕ) → _≡_ {A = ℕ} (getD (replicate n 0) j 0) 0
 no-code zero j = refl
@@ -85,23 +91,24 @@ no-code (suc n) (suc j) = no-code n j
 
 pub fit-begun : (kind : PassKind) (w : ℕ) (k : Crate) → Fit kind (begunCrate kind w k)
 unfolding begunCrate
-fit-begun kind w k = record { code = first-code kind; low = omega arith; ten = refl; clear = λ j h. no-code 10 j }
+fit-begun kind w k = record { code = first-code kind; low = omega arith; ten = refl; clear = λ j h. no-code 10 j; words = λ e. rw e }
 
 -- ---- a crate at another place
 
 module _ (kind : PassKind) (w : ℕ) where
   -- the pass with other steps left, and one reply or time-up more
   abbrev leaves : Crate → List Step → Pass
-  leaves k todo = pass todo 0 (failedSteps (k .failed) 10) (boardsOf kind (entriesIn k)) (k .sent)
+  leaves k todo = pass todo 0 (failedSteps (k .failed) 10) (boardsOf kind (entriesIn k) (k .rates)) (k .sent)
 
   view-at : (k : Crate) (b code tries : ℕ) → k .sent < 65535
-      → view kind w (placed k b code tries) ≡ pass (todoAt kind w b code) tries (failedSteps (k .failed) 10) (boardsOf kind (entriesIn k)) (k .sent)
+      → view kind w (placed k b code tries) ≡ pass (todoAt kind w b code) tries (failedSteps (k .failed) 10) (boardsOf kind (entriesIn k) (k .rates)) (k .sent)
   unfolding view placed
   view-at k b code tries r =
-      ap (λ (n : ℕ). pass (todoAt kind w b code) tries (failedSteps (k .failed) 10) (boardsOf kind (entriesIn k)) n) (counted-placed k b code tries r)
+      ap (λ (n : ℕ). pass (todoAt kind w b code) tries (failedSteps (k .failed) 10) (boardsOf kind (entriesIn k) (k .rates)) n)
+      (counted-placed k b code tries r)
 
   view-again : (k : Crate) → k .sent < 65535 → view kind w (placed k (k .board) (k .code) (k .tries + 1))
-      ≡ pass (view kind w k .todo) (k .tries + 1) (failedSteps (k .failed) 10) (boardsOf kind (entriesIn k)) (k .sent)
+      ≡ pass (view kind w k .todo) (k .tries + 1) (failedSteps (k .failed) 10) (boardsOf kind (entriesIn k) (k .rates)) (k .sent)
   unfolding view
   view-again k r = view-at k (k .board) (k .code) (k .tries + 1) r
 
@@ -137,17 +144,18 @@ view-stepped one w k r e h = view-low _ w k 2 r (omega arith) (omega arith) h
 view-stepped two w k r e h = view-low _ w k 3 r (omega arith) (omega arith) h
 view-stepped three w k r e h = view-high _ w k r (omega arith) h
 view-stepped four w k r e h = view-high _ w k r (omega arith) h
+view-stepped five w k r e h = view-high _ w k r (omega arith) h
 
 -- a failed board gets a record, and its other steps are dropped
 abbrev failedPass : PassKind → ℕ → Crate → Pass
 failedPass kind w k =
     pass (others (k .board) (later kind w (k .board) (k .code))) 0
-    (failedSteps (k .failed) 10 ++ (step (k .board) (k .code) ∷ [])) (boardsOf kind (entriesIn k)) (k .sent)
+    (failedSteps (k .failed) 10 ++ (step (k .board) (k .code) ∷ [])) (boardsOf kind (entriesIn k) (k .rates)) (k .sent)
 
 view-marked : (kind : PassKind) (w : ℕ) (k : Crate) → k .sent < 65535 → k .board < 10
     → view kind w (advanced kind w (withRecord k))
     ≡ pass (stepsFrom kind w (10 - (k .board + 1)) (k .board + 1)) 0 (failedSteps (set (k .failed) (k .board) (k .code)) 10)
-    (boardsOf kind (entriesIn k)) (k .sent)
+    (boardsOf kind (entriesIn k) (k .rates)) (k .sent)
 unfolding withRecord
 view-marked kind w k r h = view-advanced kind w (withRecord k) r h
 
@@ -155,7 +163,7 @@ view-failed : (kind : PassKind) (w : ℕ) (k : Crate) → k .sent < 65535 → k 
     → view kind w (advanced kind w (withRecord k)) ≡ failedPass kind w k
 view-failed kind w k r h fit =
     view-marked kind w k r h
-    ∙ ap₂ (λ (todo failed : List Step). pass todo 0 failed (boardsOf kind (entriesIn k)) (k .sent))
+    ∙ ap₂ (λ (todo failed : List Step). pass todo 0 failed (boardsOf kind (entriesIn k) (k .rates)) (k .sent))
     (sym (others-later (fit .code) w (k .board)))
     (failed-set (k .failed) (k .board) (k .code) (rw (fit .ten) h) (nonzero (fit .code)) (fit .clear) 10 h)
 
@@ -211,24 +219,25 @@ module _ (frame : Step → List ℕ) (kind : PassKind) (w : ℕ) (lent : List �
   abbrev goodPass : Crate → Judged → Pass
   goodPass k h =
       pass (later kind w (k .board) (k .code)) 0 (failedSteps (k .failed) 10)
-      (foundBy (step (k .board) (k .code)) (k .tries) h (boardsOf kind (entriesIn k))) (k .sent)
+      (foundBy (step (k .board) (k .code)) (k .tries) h (boardsOf kind (entriesIn k) (k .rates))) (k .sent)
 
-  view-noted : (k : Crate) (h : Judged) → k .sent < 65535 → k .board < 10 → Fit kind k → view kind w (stepped kind w (withEntry k h)) ≡ goodPass k h
-  unfolding withEntry
-  view-noted k h r b fit =
-      view-stepped (fit .code) w (withEntry k h) r refl b
+  view-noted : (k : Crate) (h : Judged) → length (h .rates) ≡ 12 → k .sent < 65535 → k .board < 10 → Fit kind k
+      → view kind w (stepped kind w (withReply k h)) ≡ goodPass k h
+  unfolding noted
+  view-noted k h t r b fit =
+      view-stepped (fit .code) w (withReply k h) r refl b
       ∙ ap (λ (boards : List Found). pass (later kind w (k .board) (k .code)) 0 (failedSteps (k .failed) 10) boards (k .sent))
-      (boards-noted (fit .code) k h refl (fit .low))
+      (boards-noted (fit .code) k h refl (fit .low) b (fit .words) t)
 
   -- a good reply
-  follows-good : (k : Crate) (h : Judged) → k .sent < 65535 → k .board < 10 → Fit kind k
+  follows-good : (k : Crate) (h : Judged) → length (h .rates) ≡ 12 → k .sent < 65535 → k .board < 10 → Fit kind k
       → gives (afterGoodReply kind w k h) ≡ says frame Good lent (goodPass k h)
   unfolding afterGoodReply
-  follows-good k h r b fit = gives-outcome Good (stepped kind w (withEntry k h)) ∙ ap (says frame Good lent) (view-noted k h r b fit)
+  follows-good k h t r b fit = gives-outcome Good (stepped kind w (withReply k h)) ∙ ap (says frame Good lent) (view-noted k h t r b fit)
 
   -- a first or a second one that is not good, and a third
   abbrev againPass : Crate → Pass
-  againPass k = pass (view kind w k .todo) (k .tries + 1) (failedSteps (k .failed) 10) (boardsOf kind (entriesIn k)) (k .sent)
+  againPass k = pass (view kind w k .todo) (k .tries + 1) (failedSteps (k .failed) 10) (boardsOf kind (entriesIn k) (k .rates)) (k .sent)
 
   follows-again : (k : Crate) → k .sent < 65535 → k .tries < 2 → gives (afterFailedSend kind w k) ≡ says frame Again lent (againPass k)
   unfolding afterFailedSend
@@ -260,7 +269,7 @@ module _ (frame : Step → List ℕ) (kind : PassKind) (w : ℕ) (lent : List �
   serves k e p = serveTo frame e lent p (here k ∷ later kind w (k .board) (k .code))
 
   abbrev viewed : Crate → ℕ → Pass
-  viewed k n = pass (todoAt kind w (k .board) (k .code)) (k .tries) (failedSteps (k .failed) 10) (boardsOf kind (entriesIn k)) n
+  viewed k n = pass (todoAt kind w (k .board) (k .code)) (k .tries) (failedSteps (k .failed) 10) (boardsOf kind (entriesIn k) (k .rates)) n
 
   pub view-here : (k : Crate) → k .board < 10 → view kind w k .todo ≡ here k ∷ later kind w (k .board) (k .code)
   unfolding view
@@ -277,21 +286,21 @@ module _ (frame : Step → List ℕ) (kind : PassKind) (w : ℕ) (lent : List �
       go : (t u : Bool) → judgedBy k e .good ≡ t → ltb (k .tries) 2 ≡ u → gives (moved kind w k (judgedBy k e)) ≡ serves k e (viewed k n)
       go true u g x =
           ap gives (moved-good k (judgedBy k e) g)
-          ∙ follows-good k (judgedBy k e) r b fit
+          ∙ follows-good k (judgedBy k e) (twelve-judged (frame (here k)) e) r b fit
           ∙ ap (λ (m : ℕ). says frame Good lent (pass rest 0 (failedSteps (k .failed) 10)
-          (foundBy (here k) (k .tries) (judgedBy k e) (boardsOf kind (entriesIn k))) m)) (sym q)
+          (foundBy (here k) (k .tries) (judgedBy k e) (boardsOf kind (entriesIn k) (k .rates))) m)) (sym q)
           ∙ sym (serve-good frame e lent (viewed k n) (here k) rest l g)
       go false true g x =
           ap gives (moved-bad k (judgedBy k e) g)
           ∙ follows-again k r (ltb-true _ _ x)
           ∙ ap₂ (λ (todo : List Step) (m : ℕ).
-          says frame Again lent (pass todo (k .tries + 1) (failedSteps (k .failed) 10) (boardsOf kind (entriesIn k)) m)) (view-here k b) (sym q)
+          says frame Again lent (pass todo (k .tries + 1) (failedSteps (k .failed) 10) (boardsOf kind (entriesIn k) (k .rates)) m)) (view-here k b) (sym q)
           ∙ sym (serve-again frame e lent (viewed k n) (here k) rest l g (ltb-true _ _ x))
       go false false g x =
           ap gives (moved-bad k (judgedBy k e) g)
           ∙ follows-failed k r b (ltb-false _ _ x) fit
           ∙ ap (λ (m : ℕ). says frame BoardFailed lent (pass (others (k .board) rest) 0
-          (failedSteps (k .failed) 10 ++ (here k ∷ [])) (boardsOf kind (entriesIn k)) m)) (sym q)
+          (failedSteps (k .failed) 10 ++ (here k ∷ [])) (boardsOf kind (entriesIn k) (k .rates)) m)) (sym q)
           ∙ sym (serve-failed frame e lent (viewed k n) (here k) rest l g (ltb-false _ _ x))
 
   -- what a crate gives for a judged event, done or not, and the pass that it then stands for

@@ -13,7 +13,7 @@ use borrow.Author.Tests.{le-ltb}
 use Rattle.refusals.specs.Tables.{given}
 use Rattle.crate_pass.specs.Crate.{saysDone}
 use Rattle.crate_pass.specs.declared.PassKind.{PassKind}
-use Rattle.crate_pass.specs.declared.PassKind.the-variants.{Reprogramming, Ping}
+use Rattle.crate_pass.specs.declared.PassKind.the-variants.{Reprogramming, Ping, Rates}
 use Rattle.crate_pass.specs.declared.Outcome.{Outcome}
 use Rattle.crate_pass.specs.declared.Outcome.the-variants.{Good, Again, BoardFailed}
 use Rattle.any_order.specs.Steps.{Step, isServed, boardSteps, stepsFrom, steps, servedFrom, judged, fetch, Lending, Found, Pass, pass, begun}
@@ -74,9 +74,9 @@ module _ (frame : Step → List ℕ) (most : ℕ) where
       })
       (x .0)
 
-pub bound-begun : (ss : List Step) → Bound (length ss) (length (first ss)) (begun ss)
-bound-begun [] = record { low = omega arith; count = omega arith }
-bound-begun (s ∷ ss) = record { low = omega arith; count = omega arith }
+pub bound-begun : (kind : PassKind) (ss : List Step) → Bound (length ss) (length (first ss)) (begun kind ss)
+bound-begun kind [] = record { low = omega arith; count = omega arith }
+bound-begun kind (s ∷ ss) = record { low = omega arith; count = omega arith }
 
 pub bound-sent : (most n : ℕ) (p : Pass) → Bound most n p → n ≤ 3 * most
 bound-sent most n p b = go (p .todo) (b .count)
@@ -97,10 +97,16 @@ steps-reprogramming w (suc n) b = go (isServed Reprogramming w b) (steps-reprogr
     go true ih = omega arith
     go false ih = omega arith
 
-steps-ping : (w n b : ℕ) → length (stepsFrom Ping w n b) ≡ n
-unfolding stepsFrom
-steps-ping w zero b = refl
-steps-ping w (suc n) b = ap suc (steps-ping w n (suc b))
+-- where each board has one, as many as boards are served
+steps-single : (kind : PassKind) → ((b : ℕ) → length (boardSteps kind b) ≡ 1) → (w n b : ℕ) → length (stepsFrom kind w n b) ≡ servedFrom kind w n b
+unfolding stepsFrom servedFrom
+steps-single kind single w zero b = refl
+steps-single kind single w (suc n) b = go (isServed kind w b) (steps-single kind single w n (suc b))
+  where
+    go : (t : Bool) → length (stepsFrom kind w n (suc b)) ≡ servedFrom kind w n (suc b)
+        → length (cond t (boardSteps kind b) [] ++ stepsFrom kind w n (suc b)) ≡ cond t 1 0 + servedFrom kind w n (suc b)
+    go true ih = length-append (boardSteps kind b) (stepsFrom kind w n (suc b)) ∙ rw (single b, ih)
+    go false ih = ih ∙ let e : servedFrom kind w n (suc b) ≡ 0 + servedFrom kind w n (suc b) = omega arith in e
 
 served-most : (kind : PassKind) (w n b : ℕ) → servedFrom kind w n b ≤ n
 unfolding servedFrom
@@ -113,12 +119,14 @@ served-most kind w (suc n) b = go (isServed kind w b) (served-most kind w n (suc
 
 pub steps-most : (kind : PassKind) (w : ℕ) → length (steps kind w) ≤ 30
 steps-most Reprogramming w = omega (arith, steps-reprogramming w 10 0, served-most Reprogramming w 10 0)
-steps-most Ping w = omega (arith, steps-ping w 10 0)
+steps-most Ping w = omega (arith, steps-single Ping (λ b. refl) w 10 0, served-most Ping w 10 0)
+steps-most Rates w = omega (arith, steps-single Rates (λ b. refl) w 10 0, served-most Rates w 10 0)
 
 -- three for each of them
 pub most-frames : (kind : PassKind) (w : ℕ) → 3 * length (steps kind w) ≤ mostFrames kind w
 most-frames Reprogramming w = omega (arith, steps-reprogramming w 10 0)
-most-frames Ping w = omega (arith, steps-ping w 10 0)
+most-frames Ping w = omega (arith, steps-single Ping (λ b. refl) w 10 0, served-most Ping w 10 0)
+most-frames Rates w = omega (arith, steps-single Rates (λ b. refl) w 10 0)
 
 -- ---- and one for each accepted reply or time-up, with one more while a frame is outstanding
 
@@ -222,9 +230,9 @@ module _ (frame : Step → List ℕ) (size : (s : Step) → length (frame s) ≡
       (once .gives) (frames-fetched todo (r .1) xs (once .stays))
 
   -- a fetch as the pass begins hands out the first frame, where there is one
-  pub fetched-begun : (c : ℕ) (lent : List ℕ) (ss : List Step) → 28 ≤ length lent
-      → fetchedIn (map seenOf (passResults frame (begun ss) ((c, (fetch, lent)) ∷ []))) ≡ map frame (first ss)
+  pub fetched-begun : (kind : PassKind) (c : ℕ) (lent : List ℕ) (ss : List Step) → 28 ≤ length lent
+      → fetchedIn (map seenOf (passResults frame (begun kind ss) ((c, (fetch, lent)) ∷ []))) ≡ map frame (first ss)
   unfolding passResults fetchedIn fetchTo
-  fetched-begun c lent [] l = refl
-  fetched-begun c lent (s ∷ ss) l =
+  fetched-begun kind c lent [] l = refl
+  fetched-begun kind c lent (s ∷ ss) l =
       rw (le-ltb _ _ l) (ap (λ (f : List ℕ). f ∷ []) (take-at (frame s) (drop 28 lent) 28 (size s)))

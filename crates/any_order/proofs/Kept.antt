@@ -1,4 +1,4 @@
--- What a crate keeps of its boards stands for the steps that failed (`failedSteps`), and for what a ping found (`boardsOf`).
+-- What a crate keeps of its boards stands for the steps that failed (`failedSteps`), and for what the pass found (`boardsOf`).
 -- Assumes nothing.
 use Prim.Native.Nat.{ℕ, zero, suc, _+_, _<_, _≤_}
 use mathlib.Core.Path.{_≡_, refl, sym, ap, ap₂, _∙_, subst}
@@ -11,14 +11,15 @@ use lib.Dec.{ltb, eqb}
 use borrow.Author.Tests.{ltb-true, ltb-false, eq-eqb, ne-eqb}
 use Rattle.ftu_list.specs.declared.Entry.{Entry}
 use Rattle.steps.specs.declared.Judged.{Judged}
-use Rattle.crate_pass.specs.Crate.{entriesIn, callsAt, withEntryIn, withEntry}
+use Rattle.crate_pass.specs.Crate.{entriesIn, callsAt, withEntryIn, withRatesIn, noted, withReply}
 use Rattle.crate_pass.proofs.Entries.{entry, entries-set}
 use Rattle.crate_pass.specs.declared.PassKind.{PassKind}
-use Rattle.crate_pass.specs.declared.PassKind.the-variants.{Reprogramming, Ping}
+use Rattle.crate_pass.specs.declared.PassKind.the-variants.{Reprogramming, Ping, Rates}
 use Rattle.crate_pass.specs.declared.Crate.{Crate}
-use Rattle.any_order.specs.Steps.{Step, step, Found, nothing, found, foundBy}
+use Rattle.any_order.specs.Steps.{Step, step, Found, nothing, found, rated, ratesFrom, foundBy}
 use Rattle.any_order.specs.AnyOrder.{Rising}
-use Rattle.any_order.proofs.Places.{Code, one, two, three, four}
+use Rattle.any_order.proofs.Places.{Code, one, two, three, four, five}
+use Rattle.any_order.proofs.RatesByBoard.{twelves, twelves-set, joined, twelves-joined}
 
 -- ---- the steps that failed
 
@@ -112,21 +113,22 @@ module _ (codes : List ℕ) (b code : ℕ) (h : b < length codes) (nonzero : cod
   pub none-after : (j : ℕ) → b + 1 ≤ j → getD (set codes b code) j 0 ≡ 0
   none-after j l = getD-set-other codes b j code 0 (λ q. omega arith) ∙ clear j (omega arith)
 
--- ---- what a ping found
+-- ---- what a pass found
 
 -- of a board: nothing where it has no calls
 abbrev pub foundIn : Entry → Found
 foundIn e = cond (eqb (e .calls) 0) nothing (found (e .calls) (e .dna) (e .«crc_errors»))
 
--- of the ten, in a ping; another pass looks at none of them
-abbrev pub boardsOf : PassKind → List Entry → List Found
-boardsOf Reprogramming entries = replicate 10 nothing
-boardsOf Ping entries = map foundIn entries
+-- of the ten: in a ping by the entries, in a rate pass by the words of rates; another pass looks at none of them
+abbrev pub boardsOf : PassKind → List Entry → List ℕ → List Found
+boardsOf Reprogramming entries words = replicate 10 nothing
+boardsOf Ping entries words = map foundIn entries
+boardsOf Rates entries words = map rated (twelves 10 words)
 
-map-set : (entries : List Entry) (i : ℕ) (e : Entry) → map foundIn (set entries i e) ≡ set (map foundIn entries) i (foundIn e)
-map-set [] i e = refl
-map-set (x ∷ entries) zero e = refl
-map-set (x ∷ entries) (suc i) e = ap (λ (fs : List Found). foundIn x ∷ fs) (map-set entries i e)
+map-set : {A : Type 0} (f : A → Found) (l : List A) (i : ℕ) (x : A) → map f (set l i x) ≡ set (map f l) i (f x)
+map-set f [] i x = refl
+map-set f (y ∷ l) zero x = refl
+map-set f (y ∷ l) (suc i) x = ap (λ (fs : List Found). f y ∷ fs) (map-set f l i x)
 
 -- the calls that the code counts are the sends
 pub calls-are : (tries : ℕ) → tries ≤ 2 → callsAt tries ≡ tries + 1
@@ -139,24 +141,46 @@ calls-are tries h = go (ltb tries 2) refl
 found-entry : (tries dna errors : ℕ) → foundIn (entry dna (tries + 1) errors) ≡ found (tries + 1) dna errors
 found-entry tries dna errors = let k : tries + 1 ≡ 0 → ⊥ = λ q. omega arith in rw (ne-eqb _ _ k)
 
--- a note in the list is what the steps find
+-- what is noted is what the steps find: of a ping in the list, with rates in their words
 noted-ping : (k : Crate) (h : Judged) → k .tries ≤ 2 → k .code ≡ 4
-    → map foundIn (entriesIn (withEntry k h)) ≡ foundBy (step (k .board) (k .code)) (k .tries) h (map foundIn (entriesIn k))
-unfolding withEntry withEntryIn foundBy
+    → map foundIn (entriesIn (withReply k h)) ≡ foundBy (step (k .board) (k .code)) (k .tries) h (map foundIn (entriesIn k))
+unfolding noted withEntryIn foundBy
 noted-ping k h t e =
     rw (eq-eqb _ _ e)
     (ap (map foundIn) (entries-set (k .dna) (k .calls) (k .«crc_errors») (k .board) (h .dna) (callsAt (k .tries)) (h .«crc_errors»))
-    ∙ map-set (entriesIn k) (k .board) (entry (h .dna) (callsAt (k .tries)) (h .«crc_errors»))
+    ∙ map-set foundIn (entriesIn k) (k .board) (entry (h .dna) (callsAt (k .tries)) (h .«crc_errors»))
     ∙ ap (set (map foundIn (entriesIn k)) (k .board))
     (ap (λ (n : ℕ). foundIn (entry (h .dna) n (h .«crc_errors»))) (calls-are (k .tries) t) ∙ found-entry (k .tries) (h .dna) (h .«crc_errors»)))
 
-found-other : (s : Step) (tries : ℕ) (h : Judged) (boards : List Found) → (s .code ≡ 4 → ⊥) → foundBy s tries h boards ≡ boards
-unfolding foundBy
-found-other s tries h boards e = rw (ne-eqb _ _ e)
+noted-rates : (k : Crate) (h : Judged) → k .board < 10 → length (k .rates) ≡ 120 → length (h .rates) ≡ 12 → k .code ≡ 5
+    → map rated (twelves 10 (withReply k h .rates)) ≡ foundBy (step (k .board) (k .code)) (k .tries) h (map rated (twelves 10 (k .rates)))
+unfolding noted withRatesIn foundBy
+noted-rates k h b l m e =
+    rw e
+    (ap (map rated) (twelves-set 10 (k .board) (k .rates) (h .rates) b l m)
+    ∙ map-set rated (twelves 10 (k .rates)) (k .board) (h .rates))
 
-pub boards-noted : {kind : PassKind} {code : ℕ} → Code kind code → (k : Crate) (h : Judged) → k .code ≡ code → k .tries ≤ 2
-    → boardsOf kind (entriesIn (withEntry k h)) ≡ foundBy (step (k .board) (k .code)) (k .tries) h (boardsOf kind (entriesIn k))
-boards-noted one k h e t = sym (found-other (step (k .board) (k .code)) (k .tries) h (replicate 10 nothing) (λ q. omega arith))
-boards-noted two k h e t = sym (found-other (step (k .board) (k .code)) (k .tries) h (replicate 10 nothing) (λ q. omega arith))
-boards-noted three k h e t = sym (found-other (step (k .board) (k .code)) (k .tries) h (replicate 10 nothing) (λ q. omega arith))
-boards-noted four k h e t = noted-ping k h t e
+found-other : (s : Step) (tries : ℕ) (h : Judged) (boards : List Found) → s .code < 4 → foundBy s tries h boards ≡ boards
+unfolding foundBy
+found-other s tries h boards l =
+    let n : s .code ≡ 4 → ⊥ = λ q. omega arith in
+    let m : s .code ≡ 5 → ⊥ = λ q. omega arith in
+    rw (ne-eqb _ _ n, ne-eqb _ _ m)
+
+pub boards-noted : {kind : PassKind} {code : ℕ} → Code kind code → (k : Crate) (h : Judged) → k .code ≡ code → k .tries ≤ 2 → k .board < 10
+    → (kind ≡ Rates → length (k .rates) ≡ 120) → length (h .rates) ≡ 12
+    → boardsOf kind (entriesIn (withReply k h)) (withReply k h .rates)
+    ≡ foundBy (step (k .board) (k .code)) (k .tries) h (boardsOf kind (entriesIn k) (k .rates))
+boards-noted one k h e t b l m = sym (found-other (step (k .board) (k .code)) (k .tries) h (replicate 10 nothing) (omega arith))
+boards-noted two k h e t b l m = sym (found-other (step (k .board) (k .code)) (k .tries) h (replicate 10 nothing) (omega arith))
+boards-noted three k h e t b l m = sym (found-other (step (k .board) (k .code)) (k .tries) h (replicate 10 nothing) (omega arith))
+boards-noted four k h e t b l m = noted-ping k h t e
+boards-noted five k h e t b l m = noted-rates k h b (l refl) m e
+
+-- in a rate pass what was found is the words of rates
+pub rates-found : (words : List ℕ) → length words ≡ 120 → ratesFrom (map rated (twelves 10 words)) ≡ words
+rates-found words l = side-by-side (twelves 10 words) ∙ twelves-joined 10 words l
+  where
+    side-by-side : (ls : List (List ℕ)) → ratesFrom (map rated ls) ≡ joined ls
+    side-by-side [] = refl
+    side-by-side (x ∷ ls) = ap (λ (ys : List ℕ). x ++ ys) (side-by-side ls)

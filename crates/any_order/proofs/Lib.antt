@@ -1,5 +1,6 @@
 -- Demand 3 (`demand-3` in AnyOrder), and the laws that lead to it, in this order.
 pub mod Places
+pub mod RatesByBoard
 pub mod Kept
 pub mod Sent
 pub mod Follows
@@ -14,5 +15,6 @@ pub mod OneCrate
 pub mod Records
 pub mod Lists
 pub mod SentOut
+pub mod RatesOut
 pub mod AnyOrder
 pub mod Calls

@@ -5,7 +5,7 @@ use mathlib.Core.Path.{_≡_, refl, sym, ap, ap₂, _∙_}
 use mathlib.Core.List.{List, [], _∷_, _++_, map, append-assoc}
 use mathlib.Core.Bool.{Bool, true, false, cond}
 use native.Mathlib.Omega.{arith}
-use lib.Dec.{eqb, ltb}
+use lib.Dec.{eqb}
 use lib.ListN.{length, drop, getD, set, replicate, length-set, drop-of-length-le}
 use lib.Seq.{drop-cons}
 use Rattle.numbers.specs.Numbers.{digits}
@@ -17,7 +17,7 @@ use Rattle.steps.specs.declared.Judged.{Judged}
 use Rattle.crate_pass.specs.Crate.{silent, entriesIn}
 use Rattle.crate_pass.specs.declared.Crate.{Crate}
 use Rattle.four_crates.specs.FourCrates.{crateOf, entryAt, entriesFrom, entriesOf}
-use Rattle.any_order.specs.Steps.{Step, judged, Lending, Found, nothing, found, sixWords, wordsFrom, howMany, Pass, Result, foundBy, react}
+use Rattle.any_order.specs.Steps.{Step, judged, Lending, Found, nothing, found, rated, sixWords, wordsFrom, howMany, Pass, Result, foundBy, react}
 use Rattle.any_order.specs.AnyOrder.{Item, passEnd, ofFour}
 use Rattle.any_order.proofs.Kept.{foundIn}
 use Rattle.any_order.proofs.Reacting.{react-any}
@@ -92,11 +92,15 @@ words-append k (x ∷ xs) ys =
 
 length-found : (s : Step) (tries : ℕ) (h : Judged) (boards : List Found) → length (foundBy s tries h boards) ≡ length boards
 unfolding foundBy
-length-found s tries h boards = go (eqb (s .code) 4)
+length-found s tries h boards = go (eqb (s .code) 4) (eqb (s .code) 5)
   where
-    go : (t : Bool) → length (cond t (set boards (s .board) (found (tries + 1) (h .dna) (h .«crc_errors»))) boards) ≡ length boards
-    go true = simp length-set
-    go false = refl
+    pinged : Found
+    pinged = found (tries + 1) (h .dna) (h .«crc_errors»)
+
+    go : (t u : Bool) → length (cond t (set boards (s .board) pinged) (cond u (set boards (s .board) (rated (h .rates))) boards)) ≡ length boards
+    go true u = simp length-set
+    go false true = simp length-set
+    go false false = refl
 
 length-once : (frame : Step → List ℕ) (x : Lending) (p : Pass) → length (react frame x p .1 .boards) ≡ length (p .boards)
 length-once frame x p =

@@ -10,6 +10,7 @@ use Rattle.refusals.specs.Tables.{given}
 use Rattle.steps.proofs.Lengths.{step-length}
 use Rattle.crate_pass.specs.Crate.{entriesIn, isDone}
 use Rattle.crate_pass.specs.declared.PassKind.{PassKind}
+use Rattle.crate_pass.specs.declared.PassKind.the-variants.{Rates}
 use Rattle.crate_pass.specs.declared.Crate.{Crate}
 use Rattle.four_crates.specs.FourCrates.{noCrate, sentOn}
 use Rattle.board.specs.State.{crateAt}
@@ -18,12 +19,12 @@ use Rattle.board.specs.declared.Board.{Board}
 use Rattle.cells.specs.Order.{only}
 use Rattle.cells.proofs.Order.{only-take}
 use Rattle.cells.proofs.Cells.{end, out, endAlone, outAlone, end-at, out-at}
-use Rattle.any_order.specs.Steps.{Step, steps, fetch, Lending, Pass, Result, first, none}
+use Rattle.any_order.specs.Steps.{Step, steps, fetch, Lending, ratesFrom, Pass, Result, first, none}
 use Rattle.any_order.specs.AnyOrder.{Item, ItemResult, itemCrate, resultCrate, Begin, Accepted, startOf, kindOf, storedBlock, wordOf, begunBoard}
 use Rattle.any_order.specs.AnyOrder.{outstanding, results, final, framesIn, framesOn, acceptedIn, mostFrames, passResults, passEnd}
 use Rattle.any_order.specs.AnyOrder.{Seen, seenOf, handedOutIn, fetchedIn, seenOn, firstFetched, EachIs}
-use Rattle.any_order.specs.AnyOrder.{frameOn, passOn, resultsOn, endOn, Rising, stepOf, Alone}
-use Rattle.any_order.proofs.Kept.{failedSteps, failed-rising, boardsOf}
+use Rattle.any_order.specs.AnyOrder.{frameOn, passOn, resultsOn, endOn, ratesOn, Rising, stepOf, Alone}
+use Rattle.any_order.proofs.Kept.{failedSteps, failed-rising, boardsOf, rates-found}
 use Rattle.any_order.proofs.Follows.{view, view-first, view-none, view-begun}
 use Rattle.any_order.proofs.Frames.{bound-sent, most-frames, frames-accepted, frames-handed, frames-fetched, fetched-begun}
 use Rattle.any_order.proofs.Fetch.{frameIn, outstanding-step}
@@ -147,9 +148,21 @@ module _ (β : Board) (g : Begin) (a : Accepted β g) where
     pub rising-is : Rising 0 (pass-end .failed)
     rising-is = subst (Rising 0) failed-is (failed-rising (at-end .failed))
 
-    pub boards-are : boardsOf kind (entriesIn at-end) ≡ pass-end .boards
+    pub boards-are : boardsOf kind (entriesIn at-end) (at-end .rates) ≡ pass-end .boards
     unfolding view
     boards-are = ap (λ (p : Pass). p .boards) view-is
+
+    -- in a rate pass it has twelve words for each board
+    pub words-are : kind ≡ Rates → length (at-end .rates) ≡ 120
+    words-are e =
+        ap (λ (k : Crate). length (k .rates)) crate-is
+        ∙ run-runs kind (storedBlock β g) c first-crate own (runs-begun kind word (crateAt β c)) .fit .words e
+
+    rates-are : kind ≡ Rates → at-end .rates ≡ ratesOn β g c xs
+    rates-are e =
+        sym (rates-found (at-end .rates) (words-are e))
+        ∙ ap (λ (k : PassKind). ratesFrom (boardsOf k (entriesIn at-end) (at-end .rates))) (sym e)
+        ∙ ap ratesFrom boards-are
 
     -- ---- the frames
     first-sent : outstanding start c ≡ map frame (first (passOn β g c .todo))
@@ -228,7 +241,7 @@ module _ (β : Board) (g : Begin) (a : Accepted β g) where
   first-fetched c h lent l =
       ap fetchedIn (seen-is ((c, (fetch, lent)) ∷ []) c h)
       ∙ ap (λ (ys : List Item). fetchedIn (map seenOf (passResults (frameOn β g c) (passOn β g c) ys))) (only-take itemCrate c (c, (fetch, lent)) [] refl)
-      ∙ fetched-begun (frameOn β g c) (size [] c h) c lent (passOn β g c .todo) l
+      ∙ fetched-begun (frameOn β g c) (size [] c h) (kindOf g) c lent (passOn β g c .todo) l
       ∙ sym (first-sent [] c h)
 
   pub alone : (xs : List Item) (c : ℕ) → c < 4 → Alone β g c xs
@@ -249,4 +262,5 @@ module _ (β : Board) (g : Begin) (a : Accepted β g) where
         counted = counted-is xs c h;
         bounded = bounded-is xs c h;
         rising = rising-is xs c h;
+        rates = rates-are xs c h;
       }

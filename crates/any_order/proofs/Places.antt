@@ -9,14 +9,16 @@ use native.Mathlib.Numerals.{add-one}
 use lib.Dec.{ltb, leb, eqb}
 use borrow.Author.Tests.{ltb-true, ltb-false, eq-eqb, ne-eqb, lt-ltb, le-ltb, le-leb, lt-leb}
 use Rattle.crate_pass.specs.Crate.{serves, firstServed, nextBoard, firstCode}
+use Rattle.crate_pass.specs.Invariant.{IsCode}
 use Rattle.crate_pass.specs.declared.PassKind.{PassKind}
-use Rattle.crate_pass.specs.declared.PassKind.the-variants.{Reprogramming, Ping}
+use Rattle.crate_pass.specs.declared.PassKind.the-variants.{Reprogramming, Ping, Rates}
 use Rattle.any_order.specs.Steps.{Step, step, isServed, boardSteps, stepsFrom, steps, first, none, others}
 
 -- the boards that the code serves are those of the steps
 pub served-is : (kind : PassKind) (w b : ℕ) → isServed kind w b ≡ serves kind w b
 served-is Reprogramming w b = refl
 served-is Ping w b = refl
+served-is Rates w b = refl
 
 -- ---- the steps that a place stands for
 
@@ -26,10 +28,19 @@ pub data Code : PassKind → ℕ → Type 0 where
   two : Code Reprogramming 2
   three : Code Reprogramming 3
   four : Code Ping 4
+  five : Code Rates 5
+
+pub is-code : {kind : PassKind} {code : ℕ} → Code kind code → IsCode kind code
+is-code one = (omega arith, omega arith)
+is-code two = (omega arith, omega arith)
+is-code three = (omega arith, omega arith)
+is-code four = refl
+is-code five = refl
 
 pub first-code : (kind : PassKind) → Code kind (firstCode kind)
 first-code Reprogramming = one
 first-code Ping = four
+first-code Rates = five
 
 -- a board's steps after that of a code
 abbrev pub more : ℕ → ℕ → List Step
@@ -53,6 +64,7 @@ todo-done kind w b code h = rw (le-ltb _ _ h)
 all-steps : (kind : PassKind) (b : ℕ) → step b (firstCode kind) ∷ more b (firstCode kind) ≡ boardSteps kind b
 all-steps Reprogramming b = refl
 all-steps Ping b = refl
+all-steps Rates b = refl
 
 -- the steps from b on begin at the first board that is served
 next-todo : (kind : PassKind) (w n b : ℕ) → b + n ≡ 10 → todoAt kind w (firstServed kind w n b) (firstCode kind) ≡ stepsFrom kind w n b
@@ -90,6 +102,7 @@ others-board : (kind : PassKind) (b k : ℕ) (ss : List Step) → (k ≡ b → �
 others-board Reprogramming b k ss n =
     others-keep b (step k 1) _ n ∙ ap (λ l. step k 1 ∷ l) (others-keep b (step k 2) _ n ∙ ap (λ l. step k 2 ∷ l) (others-keep b (step k 3) ss n))
 others-board Ping b k ss n = others-keep b (step k 4) ss n
+others-board Rates b k ss n = others-keep b (step k 5) ss n
 
 -- those of the boards after b are none of b's
 others-from : (kind : PassKind) (w n b k : ℕ) → b < k → others b (stepsFrom kind w n k) ≡ stepsFrom kind w n k
@@ -107,6 +120,7 @@ others-later one w b = others-skip b (step b 2) _ refl ∙ others-skip b (step b
 others-later two w b = others-skip b (step b 3) _ refl ∙ others-from _ w _ b (b + 1) (omega arith)
 others-later three w b = others-from _ w _ b (b + 1) (omega arith)
 others-later four w b = others-from _ w _ b (b + 1) (omega arith)
+others-later five w b = others-from _ w _ b (b + 1) (omega arith)
 
 -- ---- a place is a board, or past all of them
 

@@ -13,11 +13,10 @@ use Rattle.configuration.specs.Configuration.{activeWord}
 use Rattle.steps.specs.Steps.{stepFrame}
 use Rattle.steps.specs.declared.Judged.{Judged}
 use Rattle.steps.proofs.Lengths.{step-length}
-use Rattle.crate_pass.specs.Crate.{entriesIn, moved}
-use Rattle.crate_pass.proofs.Entries.{entries-stay}
+use Rattle.crate_pass.specs.Crate.{entriesIn, clearsList, isRatePass, moved}
+use Rattle.crate_pass.proofs.Entries.{reply-keeps-entries, reply-keeps-rates}
 use Rattle.crate_pass.proofs.Serving.{answer-none, answer-short, answer-moved, after-refused, after-given}
 use Rattle.crate_pass.specs.declared.PassKind.{PassKind}
-use Rattle.crate_pass.specs.declared.PassKind.the-variants.{Reprogramming}
 use Rattle.crate_pass.specs.declared.Outcome.{Outcome}
 use Rattle.crate_pass.specs.declared.Crate.{Crate}
 use Rattle.crate_pass.proofs.Answered.{crateAnswer, crateAfter}
@@ -26,7 +25,8 @@ use Rattle.cells.proofs.Cells.{endAlone, outAlone}
 use Rattle.any_order.specs.Steps.{Step, steps, Event, judged, Request, handIn, fetch, Lending, Pass, Given, outcome, firstFrame, Result}
 use Rattle.any_order.specs.Steps.{react, reactTo}
 use Rattle.any_order.specs.AnyOrder.{Item, ItemResult, framesIn, passResults, passEnd, stepOf, sentAfter}
-use Rattle.any_order.proofs.Places.{Code, one, two, three, Place, at, past, place}
+use Rattle.any_order.proofs.Places.{is-code, Place, at, past, place}
+use Rattle.any_order.proofs.RatesByBoard.{twelve-judged}
 use Rattle.any_order.proofs.Sent.{Numbered, sent-on}
 use Rattle.any_order.proofs.Follows.{Fit, view, servedResult, follows}
 use Rattle.any_order.proofs.Fits.{fit-kept}
@@ -122,7 +122,7 @@ module _ (kind : PassKind) (block : List ℕ) (c : ℕ) where
   -- what it keeps
   fit-by : (k : Crate) (request : Request) (lent : List ℕ) → Fit kind k → Fit kind (serving kind block c k request lent .1)
   unfolding crateNext
-  fit-by k (handIn e) lent f = fit-kept kind word k f (said k e) lent
+  fit-by k (handIn e) lent f = fit-kept kind word k f (said k e) (twelve-judged (stepFrame block c (k .board) (k .code)) e) lent
   fit-by k fetch lent f = f
 
   step-fit : (k : Crate) (x : Lending) → Fit kind k → Fit kind (next k x)
@@ -194,22 +194,31 @@ module _ (kind : PassKind) (block : List ℕ) (c : ℕ) where
         length-append (result k (x .1) .frames) (framesIn (givings (next k (x .1)) xs)),
       )
 
--- a reprogramming pass leaves the list
-no-ping : {code : ℕ} → Code Reprogramming code → code ≡ 4 → ⊥
-no-ping one q = omega arith
-no-ping two q = omega arith
-no-ping three q = omega arith
+-- ---- what a pass leaves as it was
 
-module _ (block : List ℕ) (c : ℕ) where
-  list-by : (k : Crate) (request : Request) (lent : List ℕ) → Fit Reprogramming k
-      → entriesIn (serving Reprogramming block c k request lent .1) ≡ entriesIn k
+-- a part of the crate that no reply and no time-up of such a pass changes
+module _ {A : Type 0} (part : Crate → A) (kind : PassKind)
+    (stays : (w : ℕ) (k : Crate) (h : Judged) (lent : List ℕ) → Fit kind k → part (crateAfter kind w k h lent) ≡ part k) (block : List ℕ) (c : ℕ) where
+  stays-by : (k : Crate) (request : Request) (lent : List ℕ) → Fit kind k → part (serving kind block c k request lent .1) ≡ part k
   unfolding crateNext
-  list-by k (handIn e) lent f = entries-stay Reprogramming (activeWord block c) k (said Reprogramming block c k e) lent (no-ping (f .code))
-  list-by k fetch lent f = refl
+  stays-by k (handIn e) lent f = stays (activeWord block c) k (said kind block c k e) lent f
+  stays-by k fetch lent f = refl
 
-  pub run-list : (k : Crate) (xs : List Item) → Fit Reprogramming k
-      → entriesIn (endAlone noCrate (crateStep Reprogramming block) noSuch c k xs) ≡ entriesIn k
+  run-stays : (k : Crate) (xs : List Item) → Fit kind k → part (endAlone noCrate (crateStep kind block) noSuch c k xs) ≡ part k
   unfolding endAlone crateStep
-  run-list k [] f = refl
-  run-list k (x ∷ xs) f =
-      run-list (crateStep Reprogramming block c k (x .1) .1) xs (step-fit Reprogramming block c k (x .1) f) ∙ list-by k (x .1 .0) (x .1 .1) f
+  run-stays k [] f = refl
+  run-stays k (x ∷ xs) f =
+      run-stays (crateStep kind block c k (x .1) .1) xs (step-fit kind block c k (x .1) f) ∙ stays-by k (x .1 .0) (x .1 .1) f
+
+-- a pass that is no ping leaves the list
+pub run-list : (kind : PassKind) → clearsList kind ≡ false → (block : List ℕ) (c : ℕ) (k : Crate) (xs : List Item) → Fit kind k
+    → entriesIn (endAlone noCrate (crateStep kind block) noSuch c k xs) ≡ entriesIn k
+run-list kind e block c k xs f = run-stays entriesIn kind (λ w k h lent f. reply-keeps-entries kind e w k h lent (is-code (f .code))) block c k xs f
+
+-- and one that is no rate pass the rates
+abbrev rates : Crate → List ℕ
+rates k = k .rates
+
+pub run-rates : (kind : PassKind) → isRatePass kind ≡ false → (block : List ℕ) (c : ℕ) (k : Crate) (xs : List Item) → Fit kind k
+    → endAlone noCrate (crateStep kind block) noSuch c k xs .rates ≡ k .rates
+run-rates kind e block c k xs f = run-stays rates kind (λ w k h lent f. reply-keeps-rates kind e w k h lent (is-code (f .code))) block c k xs f

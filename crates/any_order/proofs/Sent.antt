@@ -9,7 +9,7 @@ use lib.ListN.{length}
 use lib.Dec.{ltb}
 use borrow.Author.Tests.{lt-ltb, le-ltb}
 use Rattle.steps.specs.declared.Judged.{Judged}
-use Rattle.crate_pass.specs.Crate.{countedFrame, placed, advanced, stepped, withEntry, withRecord, withOutcome, afterGoodReply, afterFailedSend, moved}
+use Rattle.crate_pass.specs.Crate.{countedFrame, placed, advanced, stepped, noted, withReply, withRecord, withOutcome, afterGoodReply, afterFailedSend, moved}
 use Rattle.crate_pass.specs.declared.PassKind.{PassKind}
 use Rattle.crate_pass.specs.declared.Outcome.the-variants.{Again, BoardFailed}
 use Rattle.crate_pass.specs.declared.Crate.{Crate}
@@ -51,8 +51,8 @@ module _ (kind : PassKind) (w : ℕ) where
       go false = sent-advanced (withRecord k)
 
   sent-good : (k : Crate) (h : Judged) → Counted (k .sent) (afterGoodReply kind w k h .state)
-  unfolding afterGoodReply withEntry
-  sent-good k h = sent-stepped (withEntry k h)
+  unfolding afterGoodReply noted
+  sent-good k h = sent-stepped (withReply k h)
 
   sent-moved : (k : Crate) (h : Judged) → Counted (k .sent) (moved kind w k h .state)
   sent-moved k h = go (h .good)

@@ -16,9 +16,8 @@ use Rattle.blocks.proofs.Laws.{block-body}
 use Rattle.blocks.specs.declared.Header.{Header}
 use Rattle.ftu_list.specs.List.{listBody}
 use Rattle.ftu_list.specs.declared.Entry.{Entry}
-use Rattle.crate_pass.specs.Crate.{entriesIn, isDone}
-use Rattle.crate_pass.proofs.Entries.{entries-kept}
-use Rattle.crate_pass.specs.declared.PassKind.the-variants.{Reprogramming}
+use Rattle.crate_pass.specs.Crate.{entriesIn, isDone, clearsList}
+use Rattle.crate_pass.proofs.Entries.{begin-keeps-entries}
 use Rattle.crate_pass.specs.declared.Crate.{Crate}
 use Rattle.four_crates.specs.FourCrates.{inPass, entriesOf, failure, records, recordAt}
 use Rattle.four_crates.proofs.Entries.{same-list}
@@ -26,7 +25,8 @@ use Rattle.board.specs.State.{crateAt}
 use Rattle.board.specs.SentOut.{headerOf, listRules, listOf, failureRules, failedFrame, failureBodyOf, SendsList, SendsFailure}
 use Rattle.board.specs.declared.Board.{Board}
 use Rattle.cells.specs.Order.{only}
-use Rattle.any_order.specs.AnyOrder.{Item, itemCrate, Begin, write, ping, Accepted, startOf, storedBlock, wordOf, activeOf, begunBoard, final}
+use Rattle.any_order.specs.AnyOrder.{Item, itemCrate, Begin, write, ping, rates, Accepted, startOf, kindOf, storedBlock, wordOf, activeOf}
+use Rattle.any_order.specs.AnyOrder.{begunBoard, final}
 use Rattle.any_order.specs.AnyOrder.{passEnd, frameOn, passOn, endOn, allDone}
 use Rattle.any_order.specs.AnyOrder.{failuresOn, failures, duringPass, recordRules, pingList, listAfter, listBegun}
 use Rattle.any_order.proofs.Kept.{foundIn, failedSteps, rising-most}
@@ -50,6 +50,7 @@ header-begun : (β : Board) (g : Begin) (cs : List Crate) → headerOf (begunBoa
 unfolding begunBoard
 header-begun β (write w) cs = refl
 header-begun β (ping w) cs = refl
+header-begun β rates cs = refl
 
 module _ (β : Board) (g : Begin) (a : Accepted β g) (xs : List Item) where
   abbrev last : Board
@@ -61,7 +62,7 @@ module _ (β : Board) (g : Begin) (a : Accepted β g) (xs : List Item) where
       some-outstanding (isDone (crateAt last 0)) (isDone (crateAt last 1)) (isDone (crateAt last 2)) (isDone (crateAt last 3))
       ∙ rw (done-is β g a xs 0 (omega arith), done-is β g a xs 1 (omega arith), done-is β g a xs 2 (omega arith), done-is β g a xs 3 (omega arith))
 
-  header-is : headerOf last ≡ headerOf β
+  pub header-is : headerOf last ≡ headerOf β
   header-is = ap headerOf (final-is β g a xs) ∙ header-begun β g _
 
   -- ---- the records
@@ -108,19 +109,20 @@ module _ (β : Board) (g : Begin) (a : Accepted β g) (xs : List Item) where
   ten-boards : (c : ℕ) → length (endOn β g c xs .boards) ≡ 10
   ten-boards c = length-end (frameOn β g c) (passOn β g c) (only itemCrate c xs)
 
--- a write leaves it
-list-write : (β : Board) (w : List ℕ) (a : Accepted β (write w)) (xs : List Item) → listBody (listOf (final (startOf β (write w)) xs)) ≡ listBody (listOf β)
-list-write β w a xs =
+-- a pass that is no ping leaves it
+list-left : (β : Board) (g : Begin) → clearsList (kindOf g) ≡ false → activeOf β g ≡ β .active → (a : Accepted β g) (xs : List Item)
+    → listBody (listOf (final (startOf β g) xs)) ≡ listBody (listOf β)
+list-left β g e active a xs =
     ap₂ (λ (active : List ℕ) (entries : List Entry). listBody (record { active = active; entries = entries }))
-    (active-is β (write w) a xs)
-    (same-list (final (startOf β (write w)) xs .crates) (β .crates) same)
+    (active-is β g a xs ∙ active)
+    (same-list (final (startOf β g) xs .crates) (β .crates) same)
   where
-    same : (c : ℕ) → c < 4 → entriesIn (crateAt (final (startOf β (write w)) xs) c) ≡ entriesIn (crateAt β c)
+    same : (c : ℕ) → c < 4 → entriesIn (crateAt (final (startOf β g) xs) c) ≡ entriesIn (crateAt β c)
     same c h =
-        ap entriesIn (crate-is β (write w) a xs c h)
-        ∙ run-list (storedBlock β (write w)) c (crateBegun β (write w) c) (only itemCrate c xs)
-        (runs-begun Reprogramming (wordOf (storedBlock β (write w)) c) (crateAt β c) .fit)
-        ∙ entries-kept (wordOf (storedBlock β (write w)) c) (crateAt β c)
+        ap entriesIn (crate-is β g a xs c h)
+        ∙ run-list (kindOf g) e (storedBlock β g) c (crateBegun β g c) (only itemCrate c xs)
+        (runs-begun (kindOf g) (wordOf (storedBlock β g) c) (crateAt β c) .fit)
+        ∙ begin-keeps-entries (kindOf g) e (wordOf (storedBlock β g) c) (crateAt β c)
 
 -- a ping fills it
 list-ping : (β : Board) (w : List ℕ) (a : Accepted β (ping w)) (xs : List Item) → listBody (listOf (final (startOf β (ping w)) xs)) ≡ pingList β (ping w) xs
@@ -141,8 +143,9 @@ list-ping β w a xs =
         sym (length-map (entriesIn (crateAt (last β (ping w) a xs) c)) foundIn) ∙ ap length (boards c h) ∙ ten-boards β (ping w) a xs c
 
 pub list-is : (β : Board) (g : Begin) (a : Accepted β g) (xs : List Item) → listBody (listOf (final (startOf β g) xs)) ≡ listAfter β g xs
-list-is β (write w) a xs = list-write β w a xs
+list-is β (write w) a xs = list-left β (write w) refl refl a xs
 list-is β (ping w) a xs = list-ping β w a xs
+list-is β rates a xs = list-left β rates refl refl a xs
 
 -- as the pass begins
 ping-begun : (β : Board) (w : List ℕ) → pingList β (ping w) [] ≡ listBegun β (ping w)
@@ -151,8 +154,9 @@ ping-begun β w = refl
 
 pub list-begun : (β : Board) (g : Begin) → Accepted β g → listBody (listOf (startOf β g)) ≡ listBegun β g
 unfolding final
-list-begun β (write w) a = list-write β w a []
+list-begun β (write w) a = list-left β (write w) refl refl a []
 list-begun β (ping w) a = list-ping β w a [] ∙ ping-begun β w
+list-begun β rates a = list-left β rates refl refl a []
 
 -- ---- as the calls answer it
 

@@ -1,5 +1,5 @@
--- 01, "Demand 3 is a single claim about the whole sequence, of any length and the empty one too", and 02, d, "Demand 3 covers the bytes too": its
--- definitions in the order of the paragraph, and the claim (`AnyOrder`).
+-- 01, "Demand 3 is a single claim about the whole sequence, of any length and the empty one too"; 02, d, "Demand 3 covers the bytes too"; and 02, i,
+-- "Demand 3 holds for a rate pass": its definitions in the order of the paragraph, and the claim (`AnyOrder`).
 use Prim.Native.Nat.{ℕ, suc, _+_, _*_, _<_, _≤_}
 use mathlib.Core.Path.{_≡_}
 use mathlib.Core.Bool.{Bool, true, false, cond, not, _&&_, _||_}
@@ -10,25 +10,26 @@ use Rattle.refusals.specs.Tables.{Answer, given, refused, Rule, rule}
 use Rattle.refusals.specs.Writing.{outputAfter, writing}
 use Rattle.refusals.specs.declared.Written.{Written}
 use Rattle.commands.specs.declared.Command.the-variants.{Write, Ping}
-use Rattle.blocks.specs.Blocks.{failureBody, WroteBlock}
+use Rattle.blocks.specs.Blocks.{temperatureRules, dynamicBody, failureBody, WroteBlock}
 use Rattle.ftu_list.specs.List.{listBody}
 use Rattle.steps.specs.Steps.{stepFrame}
 use Rattle.steps.specs.declared.Judged.{Judged}
-use Rattle.run.specs.Run.{refreshed}
+use Rattle.run.specs.Run.{isRunning, refreshed}
 use Rattle.run.specs.declared.Run.{Run}
 use Rattle.crate_pass.specs.Crate.{isDone, saysDone}
 use Rattle.crate_pass.specs.declared.PassKind.{PassKind}
-use Rattle.crate_pass.specs.declared.PassKind.the-variants.{Reprogramming}
+use Rattle.crate_pass.specs.declared.PassKind.the-variants.{Reprogramming, Rates}
 use Rattle.crate_pass.specs.declared.Outcome.{Outcome}
 use Rattle.crate_pass.specs.declared.Crate.{Crate}
 use Rattle.four_crates.specs.FourCrates as four
-use Rattle.board.specs.State.{crateAt, isIdle}
+use Rattle.board.specs.State.{crateAt, isIdle, finishedRates}
 use Rattle.board.specs.Commands.{boardAnswer, boardAfter}
 use Rattle.board.specs.SlowControl.{frameAt, replyAnswer, boardReplied, bytesReplied, fetchRules, sentAnswer}
-use Rattle.board.specs.SentOut.{headerOf, listOf, failedFrame, SendsList, SendsFailure}
+use Rattle.board.specs.RatePass.{beginAnswer, boardBegun}
+use Rattle.board.specs.SentOut.{headerOf, listOf, failedFrame, SendsDynamic, SendsList, SendsFailure}
 use Rattle.board.specs.declared.Board.{Board}
 use Rattle.cells.specs.Order.{only, from, ordered}
-use Rattle.any_order.specs.Steps.{Step, step, steps, servedFrom, Event, judged, Request, handIn, fetch, Lending, wordsFrom, howMany}
+use Rattle.any_order.specs.Steps.{Step, step, steps, servedFrom, Event, judged, Request, handIn, fetch, Lending, wordsFrom, howMany, ratesFrom}
 use Rattle.any_order.specs.Steps.{Pass, begun, Given, outcome, firstFrame, Result, refusal, first, none, react}
 
 -- ---- items
@@ -48,54 +49,82 @@ ItemResult = Item × Result
 abbrev pub resultCrate : ItemResult → ℕ
 resultCrate t = t .0 .0
 
--- ---- the begin of the pass: "the accepted write or ping", a command in the words w on the board before
+-- ---- the begin of the pass: "the accepted write or ping", a command in the words w on the board before; 02, i: a rate pass has a call of its own
 
 pub data Begin : Type 0 where
   write : List ℕ → Begin
   ping : List ℕ → Begin
+  rates : Begin
 
--- what `obey` answers to the words: that it is accepted
+-- what `obey` answers to the words, and `begin_rate_pass`: that it is accepted
 abbrev pub Accepted : Board → Begin → Type 0
 Accepted β (write w) = boardAnswer β w ≡ given Write
 Accepted β (ping w) = boardAnswer β w ≡ given Ping
+Accepted β rates = beginAnswer β ≡ given tt
 
 -- "the state that the accepted write or ping returned"
 abbrev pub startOf : Board → Begin → Board
 startOf β (write w) = boardAfter β w
 startOf β (ping w) = boardAfter β w
+startOf β rates = boardBegun β
 
 -- "the kind of pass"
 abbrev pub kindOf : Begin → PassKind
 kindOf (write w) = Reprogramming
 kindOf (ping w) = PassKind.Ping
+kindOf rates = Rates
 
--- "the stored block": a write stores the one in its words, "then a data block where one is due"; a ping leaves it as it was
+-- "the stored block": a write stores the one in its words, "then a data block where one is due"; no other pass changes it
 abbrev pub storedBlock : Board → Begin → List ℕ
 storedBlock β (write w) = take 436 (drop 5 w)
 storedBlock β (ping w) = β .block
+storedBlock β rates = β .block
 
 -- "Word 0x1B0 + c holds crate c's active flags"
 abbrev pub wordOf : List ℕ → ℕ → ℕ
 wordOf block c = getD block (0x1B0 + c) 0
 
--- "the four active words as stored when the ping began"; a write leaves those of the last ping
+-- "the four active words as stored when the ping began"; the other passes leave those of the last ping
 abbrev pub activeOf : Board → Begin → List ℕ
 activeOf β (write w) = β .active
 activeOf β (ping w) = wordOf (β .block) 0 ∷ wordOf (β .block) 1 ∷ wordOf (β .block) 2 ∷ wordOf (β .block) 3 ∷ []
+activeOf β rates = β .active
 
 -- "A write .. sets fresh"
 abbrev pub runOf : Board → Begin → Run
 runOf β (write w) = refreshed (β .run)
 runOf β (ping w) = β .run
+runOf β rates = β .run
+
+-- a write and a ping are accepted while idle; 02, i: a rate pass "while idle or running", and then "the board runs or is idle as before"
+abbrev pub runsAsBefore : Board → Begin → Bool
+runsAsBefore β (write w) = false
+runsAsBefore β (ping w) = false
+runsAsBefore β rates = isRunning (β .run)
+
+-- 02, i: the rates that the board keeps of the rate pass before the last one begun
+abbrev pub ratesBefore : Board → Begin → List ℕ
+ratesBefore β (write w) = β .rates
+ratesBefore β (ping w) = β .rates
+ratesBefore β rates = finishedRates β
 
 -- the state in a pass that so began: what is above, the crates cs, and the rest as before
 unfoldable pub begunBoard : Board → Begin → List Crate → Board
 begunBoard β g cs =
-    record { identity = β .identity; run = runOf β g; block = storedBlock β g; kind = kindOf g; active = activeOf β g; crates = cs }
+    record {
+      identity = β .identity;
+      run = runOf β g;
+      block = storedBlock β g;
+      kind = kindOf g;
+      active = activeOf β g;
+      rates = ratesBefore β g;
+      crates = cs;
+    }
 
--- the list as the pass begins: as before the write, or the active words as stored and no entry
+-- the list as the pass begins: as before, or for a ping the active words as stored and no entry
 abbrev pub listBegun : Board → Begin → List ℕ
 listBegun β (write w) = listBody (listOf β)
+listBegun β rates = listBody (listOf β)
 listBegun β (ping w) = replicate 5 0 ++ (activeOf β (ping w) ++ replicate 240 0)
 
 -- ---- the items on the board
@@ -235,10 +264,11 @@ abbrev pub EachIs : List (List ℕ) → List (List ℕ) → Type 0
 EachIs one [] = Unit
 EachIs one (f ∷ fs) = (f ∷ [] ≡ one) × EachIs one fs
 
--- at most nine frames for each active board; in a ping three for each of ten
+-- at most nine frames for each active board; in a ping three for each of ten; in a rate pass "at most three frames for each active board"
 abbrev pub mostFrames : PassKind → ℕ → ℕ
 mostFrames Reprogramming w = 9 * servedFrom Reprogramming w 10 0
 mostFrames PassKind.Ping w = 30
+mostFrames Rates w = 3 * servedFrom Rates w 10 0
 
 -- ---- the same items, on the steps of one crate
 
@@ -261,7 +291,7 @@ module _ (β : Board) (g : Begin) where
   frameOn c s = stepFrame (storedBlock β g) c (s .board) (s .code)
 
   abbrev pub passOn : ℕ → Pass
-  passOn c = begun (steps (kindOf g) (wordOf (storedBlock β g) c))
+  passOn c = begun (kindOf g) (steps (kindOf g) (wordOf (storedBlock β g) c))
 
   abbrev pub resultsOn : ℕ → List Item → List ItemResult
   resultsOn c xs = passResults (frameOn c) (passOn c) (only itemCrate c xs)
@@ -307,10 +337,30 @@ module _ (β : Board) (g : Begin) where
       ∷ answeredOn 3 xs
       ∷ (activeOf β g ++ ofFour (λ c. boardsOn c xs))
 
+  -- 02, i: the rates of a rate pass, those of the boards of crate 0 first
+  abbrev pub ratesOn : ℕ → List Item → List ℕ
+  ratesOn c xs = ratesFrom (endOn c xs .boards)
+
+  unfoldable pub ratesFound : List Item → List ℕ
+  ratesFound xs = ofFour (λ c. ratesOn c xs)
+
 -- the FTU list: "A ping clears the list as it begins; no other command changes it"
 abbrev pub listAfter : Board → Begin → List Item → List ℕ
 listAfter β (write w) xs = listBody (listOf β)
 listAfter β (ping w) xs = pingList β (ping w) xs
+listAfter β rates xs = listBody (listOf β)
+
+-- 02, i: what the crates hold of rates: a rate pass those of its own, and no other pass changes them
+abbrev pub ratesHeld : Board → Begin → List Item → List ℕ
+ratesHeld β (write w) xs = four.ratesOf (β .crates)
+ratesHeld β (ping w) xs = four.ratesOf (β .crates)
+ratesHeld β rates xs = ratesFound β rates xs
+
+-- "once all four are done these are the finished rates", and until then those of the pass before; no other pass changes them
+abbrev pub ratesAfter : Board → Begin → List Item → List ℕ
+ratesAfter β (write w) xs = finishedRates β
+ratesAfter β (ping w) xs = finishedRates β
+ratesAfter β rates xs = cond (allDone β rates xs) (ratesFound β rates xs) (finishedRates β)
 
 -- each board is above the one before, from b on, and none above 9
 abbrev pub Rising : ℕ → List Step → Type 0
@@ -348,8 +398,10 @@ pub record Alone (β : Board) (g : Begin) (c : ℕ) (xs : List Item) : Type 0 wh
   pub bounded : length (framesOn β g c xs) ≤ mostFrames (kindOf g) (wordOf (storedBlock β g) c)
   -- "Records stand in rising k": so do the steps that failed
   pub rising : Rising 0 (endOn β g c xs .failed)
+  -- 02, i: "the claim naming each crate's rates where it names a ping's list entries"
+  pub rates : kindOf g ≡ Rates → crateAt (boardAtEnd β g xs) c .rates ≡ ratesOn β g c xs
 
--- Demand 3, of any board, an accepted write or ping on it, and any items
+-- Demand 3, of any board, an accepted write, ping or begin of a rate pass on it, and any items
 pub record AnyOrder (β : Board) (g : Begin) (xs : List Item) : Type 0 where
   -- "the state that the accepted write or ping returned" has the kind, the block, the active words and the list that the board before and the command's
   -- words say
@@ -376,6 +428,12 @@ pub record AnyOrder (β : Board) (g : Begin) (xs : List Item) : Type 0 where
       → WroteBlock (duringPass β g xs ∷ []) 249 (headerOf β) (listAfter β g xs) out r after
   -- the list itself, which `ftu_list` does not give during the pass
   pub list-kept : listBody (listOf (boardAtEnd β g xs)) ≡ listAfter β g xs
-  -- "The rest of the final state is as in the first, but that the board is idle once all four are done"
+  -- 02, i, "each crate's rates": what `dynamic_block` answers, with any temperatures and any output lent, and during a rate pass what the crates hold
+  pub rates : (t out : List ℕ) (r : Written) (after : List ℕ)
+      → SendsDynamic (boardAtEnd β g xs) t out r after
+      → WroteBlock (temperatureRules t) 487 (headerOf β) (dynamicBody (β .run .«on_time») t (ratesAfter β g xs)) out r after
+  pub rates-kept : four.ratesOf (boardAtEnd β g xs .crates) ≡ ratesHeld β g xs
+  -- "The rest of the final state is as in the first, but that the board is idle once all four are done"; 02, i: "and the board runs or is idle as before"
   pub rest : boardAtEnd β g xs ≡ begunBoard β g (boardAtEnd β g xs .crates)
-  pub idle : isIdle (boardAtEnd β g xs) ≡ allDone β g xs
+  pub running : isRunning (boardAtEnd β g xs .run) ≡ runsAsBefore β g
+  pub idle : isIdle (boardAtEnd β g xs) ≡ (not (runsAsBefore β g) && allDone β g xs)

@@ -12,20 +12,36 @@ use Rattle.steps.specs.declared.Event.the-variants.{Reply, TimeUp}
 use Rattle.crate_pass.specs.Crate.{replyMeaning}
 use Rattle.board.specs.Commands.{Obeys}
 use Rattle.board.specs.SlowControl.{judgedAt, Replies, Fetches}
+use Rattle.board.specs.RatePass.{begunMeaning, Begins}
 use Rattle.board.specs.declared.Board.{Board}
 use Rattle.board.specs.declared.CommandResult.{CommandResult}
+use Rattle.board.specs.declared.BeginResult.{BeginResult}
 use Rattle.board.specs.declared.ReplyResult.{ReplyResult}
 use Rattle.cells.specs.Order.{only, ordered}
 use Rattle.any_order.specs.Steps.{Event, reply, timeUp, Request, handIn, fetch, Given}
-use Rattle.any_order.specs.AnyOrder.{Item, Begin, write, ping, outcomeGiven, firstGiven, resultsAfter, boardAtEnd, framesOn}
+use Rattle.any_order.specs.AnyOrder.{Item, Begin, write, ping, rates, outcomeGiven, firstGiven, resultsAfter, boardAtEnd, framesOn}
 use Rattle.any_order.specs.AnyOrder.{Seen, seenCrate, seenOf, fetchedBy, handedOutIn, AnyOrder}
 
 -- ---- the begin
 
--- `obey` returned r: the write or the ping was accepted
-abbrev pub BegunBy : Board → Begin → CommandResult → Type 0
-BegunBy β (write w) r = Obeys β w r × (answerMeaning (r .answer) ≡ given Write)
-BegunBy β (ping w) r = Obeys β w r × (answerMeaning (r .answer) ≡ given Ping)
+-- what `obey` returned, or `begin_rate_pass`
+pub data Began : Type 0 where
+  obeyed : CommandResult → Began
+  begun : BeginResult → Began
+
+-- the write or the ping was accepted, or the begin of the rate pass
+abbrev pub BegunBy : Board → Begin → Began → Type 0
+BegunBy β (write w) (obeyed r) = Obeys β w r × (answerMeaning (r .answer) ≡ given Write)
+BegunBy β (ping w) (obeyed r) = Obeys β w r × (answerMeaning (r .answer) ≡ given Ping)
+BegunBy β rates (begun r) = Begins β r × (begunMeaning (r .answer) ≡ given tt)
+BegunBy β (write w) (begun r) = ⊥
+BegunBy β (ping w) (begun r) = ⊥
+BegunBy β rates (obeyed r) = ⊥
+
+-- the board that the caller then has
+abbrev pub boardBegunBy : Began → Board
+boardBegunBy (obeyed r) = r .board
+boardBegunBy (begun r) = r .board
 
 -- ---- the items
 
@@ -86,7 +102,7 @@ Sent c start ss frames =
     (lent : List ℕ) (r : Written) (after : List ℕ) → 28 ≤ length lent → Fetches start c lent r after
     → fetchedBy (firstGiven (writtenMeaning r)) after ++ handedOutIn (only seenCrate c (map seen ss)) ≡ frames
 
--- ---- the claim, of any board, an accepted write or ping on it, and two series of the same items, the second in the order of the crates
+-- ---- the claim, of any board, an accepted write, ping or begin of a rate pass on it, and two series of the same items, the second in the order of the crates
 
 pub record AnyOrderOfCalls (β : Board) (g : Begin) (start : Board) (one two : List ServedItem) : Type 0 where
   -- the claim holds of the items

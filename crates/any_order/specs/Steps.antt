@@ -1,7 +1,7 @@
--- 01, Slow control, as 02, d changes it: the steps of a pass on one crate, as the papers word them. Nothing here speaks of how the board keeps its
+-- 01, Slow control, as 02, d and i change it: the steps of a pass on one crate, as the papers word them. Nothing here speaks of how the board keeps its
 -- place; which boards a pass serves, how often a step is sent and what the list says of a board are said here by themselves, and not taken from what
--- the code's contracts cite. What a reply says to a frame, good or not and with which DNA and CRC error byte, is `judgedReply`, which the contracts
--- cite too.
+-- the code's contracts cite. What a reply says to a frame, good or not and with which DNA, CRC error byte and rates, is `judgedReply`, which the
+-- contracts cite too.
 use Prim.Native.Nat.{ℕ, zero, suc, _+_, _*_, _/_, _%_, _^_}
 use mathlib.Core.Bool.{Bool, true, false, cond}
 use mathlib.Core.List.{List, [], _∷_, _++_, map}
@@ -12,7 +12,7 @@ use Rattle.numbers.specs.Numbers.{digits}
 use Rattle.steps.specs.Steps.{judgedReply, noReply}
 use Rattle.steps.specs.declared.Judged.{Judged}
 use Rattle.crate_pass.specs.declared.PassKind.{PassKind}
-use Rattle.crate_pass.specs.declared.PassKind.the-variants.{Reprogramming, Ping}
+use Rattle.crate_pass.specs.declared.PassKind.the-variants.{Reprogramming, Ping, Rates}
 use Rattle.crate_pass.specs.declared.Outcome.{Outcome}
 use Rattle.crate_pass.specs.declared.Outcome.the-variants.{Good, Again, BoardFailed}
 
@@ -26,15 +26,18 @@ pub record Step : Type 0 where
 abbrev pub step : ℕ → ℕ → Step
 step b c = record { board = b; code = c }
 
--- "In a reprogramming pass each crate serves its active boards ..; in a ping, all ten"; of the word w of active flags "bit b for board b"
+-- "In a reprogramming pass each crate serves its active boards ..; in a ping, all ten"; 02, i: "a rate pass over the active boards". Of the word w of
+-- active flags "bit b for board b"
 abbrev pub isServed : PassKind → ℕ → ℕ → Bool
 isServed Reprogramming w b = eqb (w / 2 ^ b % 2) 1
 isServed Ping w b = true
+isServed Rates w b = eqb (w / 2 ^ b % 2) 1
 
--- "with codes 1, 2, 3; in a ping .. with code 4"
+-- "with codes 1, 2, 3; in a ping .. with code 4"; 02, i: "a rate pass .. with code 5"
 abbrev pub boardSteps : PassKind → ℕ → List Step
 boardSteps Reprogramming b = step b 1 ∷ step b 2 ∷ step b 3 ∷ []
 boardSteps Ping b = step b 4 ∷ []
+boardSteps Rates b = step b 5 ∷ []
 
 -- the steps of n boards from b on: those of the boards that the pass serves, "in rising order"
 unfoldable pub stepsFrom : PassKind → ℕ → ℕ → ℕ → List Step
@@ -71,17 +74,19 @@ pub data Request : Type 0 where
 abbrev pub Lending : Type 0
 Lending = Request × List ℕ
 
--- ---- what a ping finds of a board
+-- ---- what a pass finds of a board
 
--- nothing, or how many calls it needed, its DNA, and its CRC error byte
+-- nothing; a ping, how many calls it needed, its DNA, and its CRC error byte; a rate pass, its twelve words
 pub data Found : Type 0 where
   nothing : Found
   found : ℕ → ℕ → ℕ → Found
+  rated : List ℕ → Found
 
 -- "six for each board: address + 256 × calls needed, DNA in four, CRC error byte .. A board that failed the ping has six zeros"; "A board's
 -- address is 16c + b"
 abbrev pub sixWords : ℕ → ℕ → Found → List ℕ
 sixWords c b nothing = replicate 6 0
+sixWords c b (rated words) = replicate 6 0
 sixWords c b (found calls dna errors) = (16 * c + b + 256 * calls) ∷ digits 65536 4 dna ++ (errors ∷ [])
 
 -- the words of the boards of crate c, the first of which is board b
@@ -93,7 +98,24 @@ wordsFrom c b (f ∷ fs) = sixWords c b f ++ wordsFrom c (suc b) fs
 abbrev pub howMany : List Found → ℕ
 howMany [] = 0
 howMany (nothing ∷ fs) = howMany fs
+howMany (rated words ∷ fs) = howMany fs
 howMany (found calls dna errors ∷ fs) = suc (howMany fs)
+
+-- 02, i: the twelve words of a board, and those of the boards, one after the other
+abbrev pub twelveWords : Found → List ℕ
+twelveWords nothing = replicate 12 0
+twelveWords (found calls dna errors) = replicate 12 0
+twelveWords (rated words) = words
+
+abbrev pub ratesFrom : List Found → List ℕ
+ratesFrom [] = []
+ratesFrom (f ∷ fs) = twelveWords f ++ ratesFrom fs
+
+-- what is found of a board before it has answered: nothing; 02, i: "Inactive or failed boards have zeros"
+abbrev pub unanswered : PassKind → Found
+unanswered Reprogramming = nothing
+unanswered Ping = nothing
+unanswered Rates = rated (replicate 12 0)
 
 -- ---- a pass
 
@@ -113,9 +135,9 @@ pub record Pass : Type 0 where
 abbrev pub pass : List Step → ℕ → List Step → List Found → ℕ → Pass
 pass todo tries failed boards counted = record { todo = todo; tries = tries; failed = failed; boards = boards; counted = counted }
 
--- the steps ss as they begin: no failed send, no failure record, and "A ping clears the list as it begins"
-abbrev pub begun : List Step → Pass
-begun ss = pass ss 0 [] (replicate 10 nothing) 0
+-- the steps ss as they begin: no failed send, no failure record, "A ping clears the list as it begins", and no board has answered
+abbrev pub begun : PassKind → List Step → Pass
+begun kind ss = pass ss 0 [] (replicate 10 (unanswered kind)) 0
 
 -- what a request that is not refused gets: an outcome, or the first frame
 pub data Given : Type 0 where
@@ -146,9 +168,12 @@ unfoldable pub others : ℕ → List Step → List Step
 others b [] = []
 others b (s ∷ ss) = cond (eqb (s .board) b) (others b ss) (s ∷ others b ss)
 
--- after a good reply to the step s, which so many sends before had failed: a ping's reply says what the board is
+-- after a good reply to the step s, which so many sends before had failed: a ping's reply says what the board is, one with rates what it counted
 unfoldable pub foundBy : Step → ℕ → Judged → List Found → List Found
-foundBy s tries h boards = cond (eqb (s .code) 4) (set boards (s .board) (found (tries + 1) (h .dna) (h .«crc_errors»))) boards
+foundBy s tries h boards =
+    cond (eqb (s .code) 4)
+    (set boards (s .board) (found (tries + 1) (h .dna) (h .«crc_errors»)))
+    (cond (eqb (s .code) 5) (set boards (s .board) (rated (h .rates))) boards)
 
 -- "the next frame, or word that the crate is done and the bytes untouched": a frame in the first 28 lent bytes, or none
 abbrev pub handedOver : List (List ℕ) → List ℕ → List ℕ

@@ -8,8 +8,7 @@ use Rattle.refusals.specs.Tables.{Rule, rising}
 use Rattle.refusals.specs.Writing.{writingBy}
 use Rattle.refusals.proofs.Tables.{Exactly}
 use Rattle.refusals.proofs.Writing.{writing-exactly}
-use Rattle.bounds.specs.Bounds.{lentRules}
-use Rattle.blocks.specs.Blocks.{headerWords, staticRules, dynamicBody, measurementRules, headerRules, blockRules}
+use Rattle.blocks.specs.Blocks.{headerWords, staticRules, dynamicBody, temperatureRules, headerRules, blockRules}
 use Rattle.blocks.specs.declared.Header.{Header}
 
 -- the header of a block of n words: 19, 20
@@ -31,10 +30,10 @@ module _ (h : Header) where
   unfolding blockRules
   static-exactly block out = block-exactly (staticRules block) h block out tt
 
-  -- the dynamic block: 6, 8, 19, 20
-  pub dynamic-exactly : (t : ℕ) (m out : List ℕ) → BlockExactly (measurementRules m) h (dynamicBody t m) out
-  unfolding blockRules lentRules
-  dynamic-exactly t m out = block-exactly (measurementRules m) h (dynamicBody t m) out tt
+  -- the dynamic block: 6, 19, 20
+  pub dynamic-exactly : (onTime : ℕ) (t rates out : List ℕ) → BlockExactly (temperatureRules t) h (dynamicBody onTime t rates) out
+  unfolding blockRules
+  dynamic-exactly onTime t rates out = block-exactly (temperatureRules t) h (dynamicBody onTime t rates) out tt
 
   -- the FTU list and the failure message: 19, 20
   pub unbounded-exactly : (body out : List ℕ) → BlockExactly [] h body out

@@ -11,18 +11,18 @@ use Rattle.refusals.specs.Tables.{Answer, refused, Rule}
 use Rattle.refusals.specs.Writing.{writingBy, writingRules, writing}
 use Rattle.refusals.proofs.Tables.{Applies, Exactly}
 use Rattle.packets.specs.declared.Fields.{Fields}
-use Rattle.bounds.specs.Bounds.{lentRules}
 use Rattle.command_reader.specs.Reading.{readRules}
 use Rattle.run.specs.Run.{triggerRules, triggerAnswer}
-use Rattle.blocks.specs.Blocks.{headerWords, staticRules, measurementRules, blockRules}
+use Rattle.blocks.specs.Blocks.{headerWords, staticRules, temperatureRules, blockRules}
 use Rattle.ftu_list.specs.List.{listBody}
 use Rattle.steps.specs.declared.Judged.{Judged}
 use Rattle.board.specs.State.{powerUpAnswer}
 use Rattle.board.specs.Commands.{boardAnswer}
 use Rattle.board.specs.SlowControl.{frameAt, fetchRules, replyAnswer, sentAnswer}
+use Rattle.board.specs.RatePass.{beginAnswer}
 use Rattle.board.specs.SentOut.{headerOf, dynamicBodyOf, listRules, listOf, failureRules, failureBodyOf}
 use Rattle.board.specs.declared.Board.{Board}
-use Rattle.board.proofs.Tables.{power-up-exactly, command-exactly, trigger-exactly, reply-exactly, frame-exactly, sent-exactly}
+use Rattle.board.proofs.Tables.{power-up-exactly, command-exactly, trigger-exactly, reply-exactly, frame-exactly, sent-exactly, begin-exactly}
 use Rattle.board.proofs.Tables.{static-exactly, dynamic-exactly, list-exactly, failure-exactly}
 
 -- each number of a table is from a to b
@@ -73,6 +73,9 @@ module _ (β : Board) where
   pub sent-numbers : (i : ℕ) → RefusesFrom 11 11 (sentAnswer β i)
   sent-numbers i = refuses-from 11 11 (sent-exactly β i) tt
 
+  pub begin-numbers : RefusesFrom 9 9 (beginAnswer β)
+  begin-numbers = refuses-from 9 9 (begin-exactly β) tt
+
   -- what the writer of a block of the board with these rows of its own answers
   abbrev pub blockAnswer : List Rule → List ℕ → List ℕ → Answer ℕ
   blockAnswer own body out = writingBy (blockRules own (headerOf β) body out) (headerWords (headerOf β) ++ body)
@@ -81,9 +84,9 @@ module _ (β : Board) where
   unfolding blockRules
   static-numbers out = refuses-from 8 20 (static-exactly β out) tt
 
-  pub dynamic-numbers : (m out : List ℕ) → RefusesFrom 6 20 (blockAnswer (measurementRules m) (dynamicBodyOf β m) out)
-  unfolding blockRules lentRules
-  dynamic-numbers m out = refuses-from 6 20 (dynamic-exactly β m out) tt
+  pub dynamic-numbers : (t out : List ℕ) → RefusesFrom 6 20 (blockAnswer (temperatureRules t) (dynamicBodyOf β t) out)
+  unfolding blockRules
+  dynamic-numbers t out = refuses-from 6 20 (dynamic-exactly β t out) tt
 
   pub list-numbers : (out : List ℕ) → RefusesFrom 9 20 (blockAnswer (listRules β) (listBody (listOf β)) out)
   unfolding blockRules

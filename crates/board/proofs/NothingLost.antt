@@ -26,6 +26,8 @@ use Rattle.board.proofs.Serving.{board-refused, bytes-refused}
 use Rattle.board.specs.State.{statusOf, withRun}
 use Rattle.board.specs.Commands.{boardAnswer, afterCommand, boardAfter, Obeys, afterTriggerOn, TriggersOn}
 use Rattle.board.specs.SlowControl.{replyAnswer, Replies, Fetches}
+use Rattle.board.specs.RatePass.{begunMeaning, afterBegin, Begins}
+use Rattle.board.specs.declared.BeginResult.{BeginResult}
 use Rattle.board.specs.SentOut.{SendsStatic, SendsDynamic, SendsList, SendsFailure}
 use Rattle.board.specs.declared.Board.{Board}
 use Rattle.board.specs.declared.CommandResult.{CommandResult}
@@ -90,10 +92,12 @@ pub record NothingLost (β : Board) : Type 0 where
   pub reply : (i : ℕ) (h : Judged) (lent after : List ℕ) (r : ReplyResult) → Replies β i h lent r after → (n p : ℕ)
       → replyMeaning (r .answer) ≡ refused n p
       → (r .board ≡ β) × (after ≡ lent)
+  -- the begin of a rate pass
+  pub begin : (r : BeginResult) → Begins β r → (n p : ℕ) → begunMeaning (r .answer) ≡ refused n p → r .board ≡ β
   -- the first frame, and the four blocks
   pub frame : (i : ℕ) → KeepsOutput (Fetches β i)
   pub static : KeepsOutput (SendsStatic β)
-  pub dynamic : (m : List ℕ) → KeepsOutput (SendsDynamic β m)
+  pub dynamic : (t : List ℕ) → KeepsOutput (SendsDynamic β t)
   pub list : KeepsOutput (SendsList β)
   pub failure : (ordinal : ℕ) → KeepsOutput (SendsFailure β ordinal)
 
@@ -108,9 +112,10 @@ nothing-lost β =
       reply = λ i h lent after r o n p q.
           let e : replyAnswer β i h lent ≡ refused n p = sym (o .answer) ∙ q in
           (o .board ∙ board-refused β i h lent n p e, o .bytes ∙ bytes-refused β i h lent n p e);
+      begin = λ r o n p q. o .board ∙ ap (afterBegin β) (sym (o .answer) ∙ q);
       frame = λ i out r after w. refused-keeps _ _ out r after w;
       static = λ out r after w. refused-keeps _ _ out r after (w .wrote);
-      dynamic = λ m out r after w. refused-keeps _ _ out r after (w .wrote);
+      dynamic = λ t out r after w. refused-keeps _ _ out r after (w .block .wrote);
       list = λ out r after w. refused-keeps _ _ out r after (w .wrote);
       failure = λ ordinal out r after w. refused-keeps _ _ out r after (w .wrote);
     }

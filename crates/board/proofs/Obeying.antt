@@ -88,13 +88,14 @@ module _ (β : Board) (w : List ℕ) (a : CommandAnswer) (e : answerMeaning a �
 pub begun-as : (β : Board) (b block words active : List ℕ) (run : Run) (kind : PassKind) (crates : List Crate) (t : Bool)
     → kind ≡ cond t Reprogramming PassKind.Ping → run ≡ cond t (refreshed (β .run)) (β .run) → block ≡ cond t b (β .block)
     → words ≡ activeWords block → active ≡ cond t (β .active) words → crates ≡ begunAll kind words (β .crates)
-    → record { identity = β .identity; run = run; block = block; kind = kind; active = active; crates = crates } ≡ cond t (written β b) (pinged β)
+    → record { identity = β .identity; run = run; block = block; kind = kind; active = active; rates = β .rates; crates = crates }
+    ≡ cond t (written β b) (pinged β)
 unfolding written pinged
 begun-as β b block words active run kind crates true ek er eb ew ea ec =
     let cs = ec ∙ ap₂ (λ (k : PassKind) (l : List ℕ). begunAll k l (β .crates)) ek (ew ∙ ap activeWords eb) in
-    λ i. record { identity = β .identity; run = er i; block = eb i; kind = ek i; active = ea i; crates = cs i }
+    λ i. record { identity = β .identity; run = er i; block = eb i; kind = ek i; active = ea i; rates = β .rates; crates = cs i }
 begun-as β b block words active run kind crates false ek er eb ew ea ec =
     let flags = ew ∙ ap activeWords eb in
     let cs = ec ∙ ap₂ (λ (k : PassKind) (l : List ℕ). begunAll k l (β .crates)) ek flags in
     let actives = ea ∙ flags in
-    λ i. record { identity = β .identity; run = er i; block = eb i; kind = ek i; active = actives i; crates = cs i }
+    λ i. record { identity = β .identity; run = er i; block = eb i; kind = ek i; active = actives i; rates = β .rates; crates = cs i }

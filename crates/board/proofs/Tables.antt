@@ -14,7 +14,7 @@ use Rattle.acceptance.specs.Acceptance.{commandRules}
 use Rattle.acceptance.proofs.Deciding as deciding
 use Rattle.run.specs.Run.{triggerNumber, triggerRules}
 use Rattle.run.proofs.Tables as run
-use Rattle.blocks.specs.Blocks.{staticRules, measurementRules, blockRules}
+use Rattle.blocks.specs.Blocks.{staticRules, temperatureRules, blockRules}
 use Rattle.blocks.proofs.Tables as blocks
 use Rattle.blocks.proofs.Tables.{BlockExactly, block-exactly}
 use Rattle.ftu_list.specs.List.{listBody}
@@ -22,9 +22,10 @@ use Rattle.steps.specs.declared.Judged.{Judged}
 use Rattle.crate_pass.specs.Crate.{noSuchCrate}
 use Rattle.crate_pass.proofs.Tables as crate-pass
 use Rattle.four_crates.proofs.OneCrate as crates
-use Rattle.board.specs.State.{crateAt, statusOf, powerUpRules, powerUpAnswer}
+use Rattle.board.specs.State.{crateAt, statusOf, powerUpRules, powerUpAnswer, finishedRates}
 use Rattle.board.specs.Commands.{boardAnswer}
 use Rattle.board.specs.SlowControl.{frameAt, fetchRules, movedAt, replyRules, replyAnswer, sentAnswer}
+use Rattle.board.specs.RatePass.{beginRules, beginAnswer}
 use Rattle.board.specs.SentOut.{headerOf, dynamicBodyOf, listRules, listOf, failureRules, failureBodyOf}
 use Rattle.board.specs.declared.Board.{Board}
 
@@ -63,9 +64,14 @@ module _ (β : Board) where
   pub static-exactly : (out : List ℕ) → BlockExactly (staticRules (β .block)) (headerOf β) (β .block) out
   static-exactly out = blocks.static-exactly (headerOf β) (β .block) out
 
-  -- the dynamic block: 6, 8, 19, 20
-  pub dynamic-exactly : (m out : List ℕ) → BlockExactly (measurementRules m) (headerOf β) (dynamicBodyOf β m) out
-  dynamic-exactly m out = blocks.dynamic-exactly (headerOf β) (β .run .«on_time») m out
+  -- the dynamic block: 6, 19, 20
+  pub dynamic-exactly : (t out : List ℕ) → BlockExactly (temperatureRules t) (headerOf β) (dynamicBodyOf β t) out
+  dynamic-exactly t out = blocks.dynamic-exactly (headerOf β) (β .run .«on_time») t (finishedRates β) out
+
+  -- the begin of a rate pass: 9
+  pub begin-exactly : Exactly (beginRules β) tt (beginAnswer β)
+  unfolding beginAnswer
+  begin-exactly = exactly (beginRules β) tt tt
 
   -- the FTU list: 9, 19, 20
   pub list-exactly : (out : List ℕ) → BlockExactly (listRules β) (headerOf β) (listBody (listOf β)) out

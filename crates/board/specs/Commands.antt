@@ -32,6 +32,7 @@ written β block =
       block = block;
       kind = Reprogramming;
       active = β .active;
+      rates = β .rates;
       crates = begunAll Reprogramming (activeWords block) (β .crates);
     }
 
@@ -44,6 +45,7 @@ pinged β =
       block = β .block;
       kind = PassKind.Ping;
       active = activeWords (β .block);
+      rates = β .rates;
       crates = begunAll PassKind.Ping (activeWords (β .block)) (β .crates);
     }
 

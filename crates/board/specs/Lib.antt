@@ -2,4 +2,5 @@
 pub mod State
 pub mod Commands
 pub mod SlowControl
+pub mod RatePass
 pub mod SentOut

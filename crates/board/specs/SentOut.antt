@@ -1,4 +1,4 @@
--- 01, Blocks sent out: the four blocks that a board sends.
+-- 01, Blocks sent out, and 02, i: the four blocks that a board sends.
 use Prim.Native.Nat.{ℕ, _/_, _%_}
 use mathlib.Core.List.{List, [], _∷_}
 use Rattle.refusals.specs.Tables.{Rule, rule}
@@ -10,6 +10,7 @@ use Rattle.ftu_list.specs.declared.FtuList.{FtuList}
 use Rattle.steps.specs.Steps.{stepFrame}
 use Rattle.four_crates.specs.FourCrates.{inPass, entriesOf, recordAt, noSuchRecord}
 use Rattle.four_crates.specs.declared.Failure.{Failure}
+use Rattle.board.specs.State.{finishedRates}
 use Rattle.board.specs.declared.Board.{Board}
 
 -- what a header says of the board
@@ -22,9 +23,9 @@ headerOf β =
       timestamp = β .run .timestamp;
     }
 
--- dynamic block: on-time and the lent measurements
+-- dynamic block: on-time, the lent temperatures, and "the rates of the last finished rate pass" (02, i)
 abbrev pub dynamicBodyOf : Board → List ℕ → List ℕ
-dynamicBodyOf β measurements = dynamicBody (β .run .«on_time») measurements
+dynamicBodyOf β temperatures = dynamicBody (β .run .«on_time») temperatures (finishedRates β)
 
 -- "9: .. list or records asked for during a pass"
 abbrev pub listRules : Board → List Rule
@@ -53,7 +54,7 @@ abbrev pub SendsStatic : Board → List ℕ → Written → List ℕ → Type 0
 SendsStatic β out r after = WroteStatic (headerOf β) (β .block) out r after
 
 abbrev pub SendsDynamic : Board → List ℕ → List ℕ → Written → List ℕ → Type 0
-SendsDynamic β measurements out r after = WroteDynamic (headerOf β) (β .run .«on_time») measurements out r after
+SendsDynamic β temperatures out r after = WroteDynamic (headerOf β) (β .run .«on_time») temperatures (finishedRates β) out r after
 
 abbrev pub SendsList : Board → List ℕ → Written → List ℕ → Type 0
 SendsList β out r after = WroteBlock (listRules β) 249 (headerOf β) (listBody (listOf β)) out r after

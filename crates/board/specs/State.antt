@@ -1,7 +1,7 @@
--- 01, What we build: the state, and the board that power-up gives.
+-- 01, What we build, and 02, i: the state, and the board that power-up gives.
 use Prim.Native.Nat.{ℕ}
 use mathlib.Core.Path.{_≡_}
-use mathlib.Core.Bool.{Bool, not, _&&_}
+use mathlib.Core.Bool.{Bool, not, cond, _&&_}
 use mathlib.Core.List.{List, [], _∷_}
 use lib.Dec.{leb}
 use lib.ListN.{replicate}
@@ -10,10 +10,10 @@ use Rattle.numbers.specs.Numbers.{idLimit}
 use Rattle.configuration.specs.Configuration.{activeWord}
 use Rattle.run.specs.Run.{isRunning, atPowerUp}
 use Rattle.run.specs.declared.Run.{Run}
-use Rattle.crate_pass.specs.Crate.{crateAtPowerUp}
+use Rattle.crate_pass.specs.Crate.{crateAtPowerUp, isRatePass}
 use Rattle.crate_pass.specs.declared.PassKind.the-variants.{Reprogramming}
 use Rattle.crate_pass.specs.declared.Crate.{Crate}
-use Rattle.four_crates.specs.FourCrates.{crateOf, inPass}
+use Rattle.four_crates.specs.FourCrates.{crateOf, inPass, ratesOf}
 use Rattle.acceptance.specs.declared.Status.{Status}
 use Rattle.board.specs.declared.Board.{Board}
 use Rattle.board.specs.declared.PowerUp.{PowerUp}
@@ -29,7 +29,7 @@ crateAt β i = crateOf (β .crates) i
 abbrev pub activeWords : List ℕ → List ℕ
 activeWords block = activeWord block 0 ∷ activeWord block 1 ∷ activeWord block 2 ∷ activeWord block 3 ∷ []
 
--- "The board is idle, running, or in a pass": idle is neither of the others
+-- "The board is idle, running, or in a pass": idle is neither of the others. 02, i: "a board can now run and be in a rate pass at once"
 abbrev pub isIdle : Board → Bool
 isIdle β = not (isRunning (β .run)) && not (inPass (β .crates))
 
@@ -37,16 +37,23 @@ isIdle β = not (isRunning (β .run)) && not (inPass (β .crates))
 abbrev pub statusOf : Board → Status
 statusOf β = record { idle = isIdle β; running = isRunning (β .run); fresh = β .run .fresh }
 
+-- 02, i: "the rates of the last finished rate pass": those of the crates; while a rate pass is under way, which is not finished, those of the one before
+unfoldable pub finishedRates : Board → List ℕ
+finishedRates β = cond (isRatePass (β .kind) && inPass (β .crates)) (β .rates) (ratesOf (β .crates))
+
 -- the same board with another run, and with other crates
 unfoldable pub withRun : Board → Run → Board
-withRun β r = record { identity = β .identity; run = r; block = β .block; kind = β .kind; active = β .active; crates = β .crates }
+withRun β r =
+    record { identity = β .identity; run = r; block = β .block; kind = β .kind; active = β .active; rates = β .rates; crates = β .crates }
 
 unfoldable pub withCrates : Board → List Crate → Board
-withCrates β cs = record { identity = β .identity; run = β .run; block = β .block; kind = β .kind; active = β .active; crates = cs }
+withCrates β cs =
+    record { identity = β .identity; run = β .run; block = β .block; kind = β .kind; active = β .active; rates = β .rates; crates = cs }
 
 -- ---- power-up
 
--- "idle, all words and counters zero, nothing fresh, an empty list, no failure records"; no pass was begun, and its kind is that of none
+-- "idle, all words and counters zero, nothing fresh, an empty list, no failure records"; rates are "zeros before the first" rate pass (02, i). No pass
+-- was begun, and its kind is that of none
 unfoldable pub freshBoard : ℕ → ℕ → Board
 freshBoard id firmware =
     record {
@@ -55,6 +62,7 @@ freshBoard id firmware =
       block = replicate 436 0;
       kind = Reprogramming;
       active = replicate 4 0;
+      rates = replicate 480 0;
       crates = replicate 4 crateAtPowerUp;
     }
 

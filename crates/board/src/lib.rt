@@ -10,9 +10,10 @@ ghost use Rattle.acceptance.specs.Acceptance.{answerMeaning};
 ghost use Rattle.run.specs.Run.{refreshed};
 ghost use Rattle.crate_pass.specs.declared.PassKind.the-variants.{Reprogramming, Ping};
 ghost use Rattle.four_crates.specs.FourCrates.{sentMeaning};
-ghost use Rattle.board.specs.State.{activeWords, isIdle, statusOf, withRun, freshBoard, PowersUp};
+ghost use Rattle.board.specs.State.{activeWords, isIdle, statusOf, finishedRates, withRun, freshBoard, PowersUp};
 ghost use Rattle.board.specs.Commands.{written, pinged, afterCommand, Obeys, TriggersOn, afterClockStep};
 ghost use Rattle.board.specs.SlowControl.{judgedAt, Replies, Fetches, sentAnswer};
+ghost use Rattle.board.specs.RatePass.{ratesBegun, Begins};
 ghost use Rattle.board.specs.SentOut.{headerOf, SendsStatic, SendsDynamic, SendsList, SendsFailure};
 use acceptance::CommandAnswer;
 use acceptance::Status;
@@ -27,6 +28,7 @@ use crate_pass::Crate;
 use crate_pass::PassKind;
 use crate_pass::ReplyAnswer;
 use crate_pass::crate_at_power_up;
+use crate_pass::is_rate_pass;
 use four_crates::FirstStep;
 use four_crates::FramesSent;
 use four_crates::RecordFound;
@@ -34,6 +36,7 @@ use four_crates::begin_all;
 use four_crates::entries_of;
 use four_crates::first_on;
 use four_crates::in_pass;
+use four_crates::rates_of;
 use four_crates::record_at;
 use four_crates::sent_on;
 use ftu_list::FtuList;
@@ -58,6 +61,8 @@ pub struct Identity {
 
 // The arrays stand first and what changes most stands last, so that a call copies as little as it can.
 pub struct Board {
+    // Of the rate pass before the last one begun; changed by the begin of a rate pass.
+    pub rates: [u16; 480],
     // Changed by an accepted write alone.
     pub block: [u16; 436],
     // Each changed by its own replies and time-ups, and by the begin of a pass.
@@ -81,6 +86,17 @@ pub struct PowerUpResult {
     // No board of the caller's where power-up is refused: one of ID 0.
     pub board: Board,
     pub answer: PowerUp,
+}
+
+// Whether a rate pass began.
+pub enum PassBegun {
+    Begun,
+    Refused(Refusal),
+}
+
+pub struct BeginResult {
+    pub board: Board,
+    pub answer: PassBegun,
 }
 
 pub struct CommandResult {
@@ -108,6 +124,7 @@ fn fresh_board(board_id: u64, firmware_id: u16) -> Board
     let k = crate_at_power_up();
     Board {
         block: [0; 436],
+        rates: [0; 480],
         crates: [k; 4],
         active: [0; 4],
         kind: PassKind::Reprogramming,
@@ -235,7 +252,7 @@ impl Board {
         next
     }
 
-    // A pass begins: a write stores the block and sets fresh, a ping keeps the active words as they stand.
+    // A write or a ping begins a pass: a write stores the block and sets fresh, a ping keeps the active words as they stand.
     fn begin(self, is_write: bool, command_block: &[u16]) -> Board
         requires { ⌜ («is_write» ≡ true → length (now «command_block») ≡ 436) ⌝ }
         ensures { λ r. ⌜ r ≡ cond «is_write» (written self (now («command_block» .entry))) (pinged self) ⌝ }
@@ -244,6 +261,7 @@ impl Board {
         let run = self.run;
         let block = self.block;
         let active = self.active;
+        let rates = self.rates;
         let crates = self.crates;
         let kind = kind_of(is_write);
         let next_run = run_after(run, is_write);
@@ -253,6 +271,7 @@ impl Board {
         let begun = begin_all(crates, kind, flags);
         Board {
             block: next_block,
+            rates,
             crates: begun,
             active: next_active,
             kind,
@@ -314,6 +333,62 @@ impl Board {
         TriggerResult {
             board: self.with_run(next),
             answer,
+        }
+    }
+
+    // The rates of the last finished rate pass.
+    fn finished_rates(self) -> [u16; 480]
+        ensures { λ r. ⌜ r ≡ finishedRates self ⌝ }
+    {
+        let kind = self.kind;
+        let rates = self.rates;
+        let crates = self.crates;
+        if is_rate_pass(kind) {
+            if in_pass(crates) {
+                return rates;
+            }
+            return rates_of(crates);
+        }
+        rates_of(crates)
+    }
+
+    // The board as a rate pass begins.
+    fn rates_begun(self) -> Board
+        ensures { λ r. ⌜ r ≡ ratesBegun self ⌝ }
+    {
+        let identity = self.identity;
+        let run = self.run;
+        let block = self.block;
+        let active = self.active;
+        let crates = self.crates;
+        let kind = PassKind::Rates;
+        let rates = self.finished_rates();
+        let begun = begin_all(crates, kind, active_words(block));
+        Board {
+            block,
+            rates,
+            crates: begun,
+            active,
+            kind,
+            identity,
+            run,
+        }
+    }
+
+    // A rate pass begins, while the board is idle or running.
+    pub fn begin_rate_pass(self) -> BeginResult
+        ensures { λ r. ⌜ Begins self r ⌝ }
+    {
+        let crates = self.crates;
+        if in_pass(crates) {
+            return BeginResult {
+                board: self,
+                answer: PassBegun::Refused(Refusal::NotAcceptedNow),
+            };
+        }
+        BeginResult {
+            board: self.rates_begun(),
+            answer: PassBegun::Begun,
         }
     }
 
@@ -391,12 +466,13 @@ impl Board {
         write_static(self.header(), block, out)
     }
 
-    // The dynamic block, with lent measurements, into lent words.
-    pub fn dynamic_block(self, measurements: &[u16], out: &mut [u16]) -> Written
-        ensures { λ r. ⌜ SendsDynamic self (now (measurements .entry)) (now (out .entry)) r (now (out .exit)) ⌝ }
+    // The dynamic block, with lent temperatures, into lent words.
+    pub fn dynamic_block(self, temperatures: &[u16], out: &mut [u16]) -> Written
+        ensures { λ r. ⌜ SendsDynamic self (now (temperatures .entry)) (now (out .entry)) r (now (out .exit)) ⌝ }
     {
         let run = self.run;
-        write_dynamic(self.header(), run.on_time, measurements, out)
+        let rates = self.finished_rates();
+        write_dynamic(self.header(), run.on_time, temperatures, rates, out)
     }
 
     // The FTU list, into lent words.

@@ -1,15 +1,19 @@
-// 01's examples of passes, streams that get every answer a stream can get, and replies, time-ups and fetches with 0, 27, 28 and 40 bytes lent (02, d),
-// worked by the code: each line names the example, and gives what the board answered.
+// 01's examples of passes, streams that get every answer a stream can get, replies, time-ups and fetches with 0, 27, 28 and 40 bytes lent (02, d), and
+// rate passes (02, i), worked by the code: each line names the example, and gives what the board answered.
+ghost use Prim.Native.Nat.{_≤_};
 use board::Board;
+use board::PassBegun;
 use board::power_up;
 use crate_pass::Outcome;
 use crate_pass::ReplyAnswer;
 use crc::crc8;
 use four_crates::FramesSent;
+use four_crates::in_pass;
 use libc::STDOUT_FILENO;
 use refusals::Written;
 use steps::Event;
 use stream::list_answers;
+use stream::run_out;
 use words::bytes_from_words;
 
 fn text(s: &[u8]) {
@@ -82,17 +86,25 @@ fn third_try(line: Line) -> Line {
     after(time_up(time_up(line)), Event::Reply)
 }
 
-// How many frames were sent on crate 0, and whether the board is idle.
+// How many frames were sent on crate 0, and whether the board is idle, running, or in a pass.
 fn tell_board(board: Board) {
+    let run = board.run;
+    let crates = board.crates;
     match board.frames_sent(0) {
         FramesSent::Number(n) => decimal(n as u64),
         FramesSent::Refused(_) => text(b"no such crate"),
     }
+    text(b" frames");
     if board.is_idle() {
-        text(b" frames, idle\n");
-    } else {
-        text(b" frames, in a pass\n");
+        text(b", idle");
     }
+    if run.is_running() {
+        text(b", running");
+    }
+    if in_pass(crates) {
+        text(b", in a pass");
+    }
+    text(b"\n");
 }
 
 fn tell(name: &[u8], line: Line) {
@@ -266,6 +278,125 @@ fn fetch_late() {
     );
 }
 
+// ---- 02, i: rate passes
+
+// A board with crate 0's active flags that runs: the pass of its write has run out.
+fn running(flags: u16) -> Board {
+    let line = written(flags);
+    let board = line.board;
+    let done = run_out(board).obey(&[0x0040, 0x04, 1, 0, 0]);
+    done.board
+}
+
+// A rate pass begins, or not: 0 where it does.
+fn begin(name: &[u8], board: Board) -> Board {
+    text(name);
+    let begun = board.begin_rate_pass();
+    let answer = begun.answer;
+    let next = begun.board;
+    match answer {
+        PassBegun::Begun => decimal(0),
+        PassBegun::Refused(r) => decimal(r.number() as u64),
+    }
+    text(b", ");
+    tell_board(next);
+    next
+}
+
+// A reply with rates to a frame of crate 0: counts of 0x01020304, 0x3FFFFFFF, 0, 65536 and 10, overflow 0xAB, CRC errors 0xCD.
+fn rates(frame: [u8; 28]) -> [u8; 28] {
+    let f = frame;
+    exchanged([
+        f[0],
+        f[1],
+        f[2],
+        f[3],
+        f[4],
+        1,
+        2,
+        3,
+        4,
+        63,
+        255,
+        255,
+        255,
+        0,
+        0,
+        0,
+        0,
+        0,
+        1,
+        0,
+        0,
+        0,
+        0,
+        0,
+        10,
+        0xAB,
+        0xCD,
+        0,
+    ])
+}
+
+// The first frame of crate 0, and a good reply to it.
+fn serve(board: Board) -> Board {
+    let mut frame = [0u8; 28];
+    board.first_frame(0, &mut frame);
+    hexadecimal(b"The first frame: ", &frame);
+    let reply = rates(frame);
+    let r = board.hand_in(0, Event::Reply, &reply, &mut frame);
+    let answer = r.answer;
+    let next = r.board;
+    hexadecimal(b"Its reply: ", &reply);
+    text(b"The reply is ");
+    tell_answer(answer);
+    text(b", ");
+    tell_board(next);
+    next
+}
+
+// 1 for a word that is not zero, else 0.
+fn one(word: u16) -> usize
+    ensures { λ r. ⌜ r ≤ 1 ⌝ }
+{
+    if word == 0 { 0 } else { 1 }
+}
+
+// How many words are not zero.
+fn not_zero(words: &[u16]) -> usize {
+    let mut count = 0;
+    let mut i = 0;
+    while i < words.len() {
+        count += one(words[i]);
+        i += 1;
+    }
+    count
+}
+
+// The dynamic block with temperatures 1 to 4: in hexadecimal its on-time, the temperatures and the first board's words; how many others of the body are
+// not zero.
+fn dynamic(name: &[u8], board: Board) {
+    let mut block = [0u16; 498];
+    let mut bytes = [0u8; 38];
+    board.dynamic_block(&[1, 2, 3, 4], &mut block);
+    bytes_from_words(&block[11..30], &mut bytes);
+    hexadecimal(name, &bytes);
+    text(b"  other words not zero: ");
+    decimal(not_zero(&block[30..]) as u64);
+    text(b"\n");
+}
+
+// One begins while the board runs; another has no active board.
+fn rate_passes() {
+    let board = begin(b"A rate pass while running: ", running(1));
+    let same = begin(b"Another during it: ", board);
+    dynamic(b"The dynamic block during it: ", same);
+    let done = serve(same);
+    dynamic(b"The dynamic block after it: ", done);
+    begin(b"A rate pass after it: ", done);
+    begin(b"A rate pass with no active board: ", running(0));
+}
+
 // The answer of an ordinal, where there is one.
 fn answer(answers: [u8; 6554], count: usize, i: usize) {
     if i < count {
@@ -366,4 +497,5 @@ fn main() {
     lend_bytes();
     fetch_bytes();
     fetch_late();
+    rate_passes();
 }

@@ -11,7 +11,7 @@ use Rattle.refusals.specs.Tables.{given, refused}
 use Rattle.steps.specs.declared.Judged.{Judged}
 use Rattle.crate_pass.specs.declared.PassKind.{PassKind}
 use Rattle.crate_pass.specs.declared.Crate.{Crate}
-use Rattle.crate_pass.specs.Crate.{isDone, placed, advanced, stepped, withEntry, withRecord, afterGoodReply, afterFailedSend, moved}
+use Rattle.crate_pass.specs.Crate.{isDone, placed, advanced, stepped, noted, withReply, withRecord, afterGoodReply, afterFailedSend, moved}
 use Rattle.crate_pass.specs.Crate.{unlessRefused}
 use Rattle.crate_pass.proofs.Answered.{crateAnswer, crateAfter}
 
@@ -19,17 +19,17 @@ module _ (kind : PassKind) (w : ℕ) (k : Crate) (h : Judged) (P : Crate → Typ
   -- P holds of the crate as it was, after a good reply, and after another or none
   pub record Each : Type 0 where
     pub same : P k
-    pub next-step : k .board < 10 → h .good ≡ true → k .code < 3 → P (placed (withEntry k h) (k .board) (k .code + 1) 0)
-    pub next-board : k .board < 10 → h .good ≡ true → 3 ≤ k .code → P (advanced kind w (withEntry k h))
+    pub next-step : k .board < 10 → h .good ≡ true → k .code < 3 → P (placed (withReply k h) (k .board) (k .code + 1) 0)
+    pub next-board : k .board < 10 → h .good ≡ true → 3 ≤ k .code → P (advanced kind w (withReply k h))
     pub again : k .board < 10 → k .tries < 2 → P (placed k (k .board) (k .code) (k .tries + 1))
     pub failed : k .board < 10 → 2 ≤ k .tries → P (advanced kind w (withRecord k))
 
   module _ (each : Each) where
     after-good : k .board < 10 → h .good ≡ true → P (afterGoodReply kind w k h .state)
-    unfolding afterGoodReply stepped withEntry
+    unfolding afterGoodReply stepped noted
     after-good d g = go (ltb (k .code) 3) refl
       where
-        go : (t : Bool) → ltb (k .code) 3 ≡ t → P (cond t (placed (withEntry k h) (k .board) (k .code + 1) 0) (advanced kind w (withEntry k h)))
+        go : (t : Bool) → ltb (k .code) 3 ≡ t → P (cond t (placed (withReply k h) (k .board) (k .code + 1) 0) (advanced kind w (withReply k h)))
         go true e = each .next-step d g (ltb-true _ _ e)
         go false e = each .next-board d g (ltb-false _ _ e)
 

@@ -1,7 +1,9 @@
--- A crate's part of the FTU list: the entry of each board, an entry that is stored, the list as a pass begins, and where a pass leaves it as it was.
+-- A crate's part of the FTU list: the entry of each board, an entry that is stored, the list as a pass begins, and where a pass leaves it as it was; and
+-- where it leaves the rates.
 -- Assumes nothing.
 use Prim.Native.Nat.{ℕ, zero, suc, _<_}
 use mathlib.Core.Path.{_≡_, refl, ap}
+use mathlib.Core.Bool.{false}
 use mathlib.Core.List.{List, [], _∷_}
 use native.Mathlib.Omega.{arith}
 use lib.ListN.{length, getD, set, replicate}
@@ -9,9 +11,11 @@ use borrow.Author.Tests.{ne-eqb}
 use Rattle.ftu_list.specs.declared.Entry.{Entry}
 use Rattle.steps.specs.declared.Judged.{Judged}
 use Rattle.crate_pass.specs.declared.PassKind.{PassKind}
-use Rattle.crate_pass.specs.declared.PassKind.the-variants.{Reprogramming, Ping}
+use Rattle.crate_pass.specs.declared.PassKind.the-variants.{Reprogramming, Ping, Rates}
 use Rattle.crate_pass.specs.declared.Crate.{Crate}
-use Rattle.crate_pass.specs.Crate.{silent, asEntries, entriesIn, begunCrate, placed, advanced, withEntryIn, withEntry, withRecord}
+use Rattle.crate_pass.specs.Crate.{silent, asEntries, entriesIn, clearsList, isRatePass, begunCrate}
+use Rattle.crate_pass.specs.Crate.{placed, advanced, withEntryIn, withRatesIn, noted, withRecord}
+use Rattle.crate_pass.specs.Invariant.{IsCode}
 use Rattle.crate_pass.proofs.After.{after-any}
 use Rattle.crate_pass.proofs.Answered.{crateAfter}
 
@@ -45,16 +49,49 @@ pub entries-cleared : (w : ℕ) (k : Crate) → entriesIn (begunCrate Ping w k) 
 unfolding begunCrate asEntries
 entries-cleared w k = refl
 
-pub entries-kept : (w : ℕ) (k : Crate) → entriesIn (begunCrate Reprogramming w k) ≡ entriesIn k
+pub begin-keeps-entries : (kind : PassKind) → clearsList kind ≡ false → (w : ℕ) (k : Crate) → entriesIn (begunCrate kind w k) ≡ entriesIn k
 unfolding begunCrate
-entries-kept w k = refl
+begin-keeps-entries kind e w k = rw e
 
--- a reply or a time-up leaves the list as it was, where the frame was not a ping
-pub entries-stay : (kind : PassKind) (w : ℕ) (k : Crate) (h : Judged) (lent : List ℕ) → (k .code ≡ 4 → ⊥)
+-- the code of a pass that is no ping is another
+no-ping : (kind : PassKind) (code : ℕ) → clearsList kind ≡ false → IsCode kind code → code ≡ 4 → ⊥
+no-ping Reprogramming code e i q = let l = i .1 in omega arith
+no-ping Ping code e i q = let z : _≡_ {A = ℕ} 0 1 = cc in omega arith
+no-ping Rates code e i q = omega arith
+
+-- so a reply or a time-up leaves the list as it was
+pub reply-keeps-entries : (kind : PassKind) → clearsList kind ≡ false → (w : ℕ) (k : Crate) (h : Judged) (lent : List ℕ) → IsCode kind (k .code)
     → entriesIn (crateAfter kind w k h lent) ≡ entriesIn k
-unfolding withEntry withEntryIn withRecord advanced placed
-entries-stay kind w k h lent n =
+unfolding noted withEntryIn withRecord advanced placed
+reply-keeps-entries kind e w k h lent code =
+    let n = no-ping kind (k .code) e code in
     after-any kind w k h (λ (q : Crate). entriesIn q ≡ entriesIn k)
+    (record {
+      same = refl;
+      next-step = λ d g l. rw (ne-eqb _ _ n);
+      next-board = λ d g l. rw (ne-eqb _ _ n);
+      again = λ d l. refl;
+      failed = λ d l. refl;
+    })
+    lent
+
+-- ---- the rates, in a pass that is no rate pass
+
+pub begin-keeps-rates : (kind : PassKind) → isRatePass kind ≡ false → (w : ℕ) (k : Crate) → begunCrate kind w k .rates ≡ k .rates
+unfolding begunCrate
+begin-keeps-rates kind e w k = rw e
+
+no-rates : (kind : PassKind) (code : ℕ) → isRatePass kind ≡ false → IsCode kind code → code ≡ 5 → ⊥
+no-rates Reprogramming code e i q = let l = i .1 in omega arith
+no-rates Ping code e i q = omega arith
+no-rates Rates code e i q = let z : _≡_ {A = ℕ} 0 1 = cc in omega arith
+
+pub reply-keeps-rates : (kind : PassKind) → isRatePass kind ≡ false → (w : ℕ) (k : Crate) (h : Judged) (lent : List ℕ) → IsCode kind (k .code)
+    → crateAfter kind w k h lent .rates ≡ k .rates
+unfolding noted withRatesIn withRecord advanced placed
+reply-keeps-rates kind e w k h lent code =
+    let n = no-rates kind (k .code) e code in
+    after-any kind w k h (λ (q : Crate). q .rates ≡ k .rates)
     (record {
       same = refl;
       next-step = λ d g l. rw (ne-eqb _ _ n);

@@ -7,18 +7,20 @@ use mathlib.Core.List.{List, [], _∷_}
 use mathlib.Core.Logic.{inl, inr}
 use native.Mathlib.Omega.{arith}
 use lib.Dec.{ltb, eqb}
-use lib.ListN.{length, getD, set, replicate, length-set}
+use lib.ListN.{length, getD, set, replicate, length-set, length-replicate}
 use borrow.Author.Tests.{ltb-true, eqb-true}
 use Rattle.numbers.specs.Numbers.{idLimit}
+use Rattle.bounds.specs.Bounds.{measurementBound, RatesKept}
 use Rattle.steps.specs.declared.Judged.{Judged}
 use Rattle.crate_pass.specs.declared.PassKind.{PassKind}
-use Rattle.crate_pass.specs.declared.PassKind.the-variants.{Reprogramming, Ping}
+use Rattle.crate_pass.specs.declared.PassKind.the-variants.{Reprogramming, Ping, Rates}
 use Rattle.crate_pass.specs.declared.Crate.{Crate}
-use Rattle.crate_pass.specs.Crate.{serves, firstServed, nextBoard, firstCode, crateAtPowerUp, kept, begunCrate}
-use Rattle.crate_pass.specs.Crate.{placed, advanced, callsAt, withEntryIn, withEntry, withRecord}
+use Rattle.crate_pass.specs.Crate.{serves, firstServed, nextBoard, firstCode, crateAtPowerUp, unlessCleared, clearsList, isRatePass, begunCrate}
+use Rattle.crate_pass.specs.Crate.{placed, advanced, callsAt, withEntryIn, withTwelve, withRatesIn, noted, withReply, withRecord}
 use Rattle.crate_pass.specs.Invariant.{IsCode, CallsKept, DnaKept, FailedIn, CrateInvariant}
 use Rattle.crate_pass.proofs.After.{after-any}
 use Rattle.crate_pass.proofs.Answered.{crateAfter}
+use Rattle.crate_pass.proofs.BoardRates.{length-twelve, kept-twelve}
 
 -- ---- of lists of numbers, a number for each board
 
@@ -35,14 +37,15 @@ each-set P (y ∷ l) zero x p f (suc b) = f (suc b)
 each-set P (y ∷ l) (suc i) x p f zero = f zero
 each-set P (y ∷ l) (suc i) x p f (suc b) = each-set P l i x p (λ c. f (suc c)) b
 
--- and where they are cleared
-length-kept : (kind : PassKind) (l : List ℕ) → length l ≡ 10 → length (kept kind l) ≡ 10
-length-kept Reprogramming l e = e
-length-kept Ping l e = refl
+-- and where they are cleared or not
+length-kept : (clears : Bool) (n : ℕ) (l : List ℕ) → length l ≡ n → length (unlessCleared clears n l) ≡ n
+length-kept true n l e = length-replicate n 0
+length-kept false n l e = e
 
-each-kept : (P : ℕ → Type 0) (kind : PassKind) (l : List ℕ) → P 0 → ((b : ℕ) → P (getD l b 0)) → (b : ℕ) → P (getD (kept kind l) b 0)
-each-kept P Reprogramming l p f b = f b
-each-kept P Ping l p f b = subst P (sym (zeros 10 b)) p
+each-kept : (P : ℕ → ℕ → Type 0) (clears : Bool) (n : ℕ) (l : List ℕ) → ((b : ℕ) → P b 0) → ((b : ℕ) → P b (getD l b 0))
+    → (b : ℕ) → P b (getD (unlessCleared clears n l) b 0)
+each-kept P true n l p f b = subst (P b) (sym (zeros n b)) (p b)
+each-kept P false n l p f b = f b
 
 -- ---- places
 
@@ -62,10 +65,12 @@ next-most kind w b = first-most kind w (10 - b) b (omega arith)
 first-is : (kind : PassKind) → IsCode kind (firstCode kind)
 first-is Reprogramming = (omega arith, omega arith)
 first-is Ping = refl
+first-is Rates = refl
 
 next-is : (kind : PassKind) (code : ℕ) → IsCode kind code → code < 3 → IsCode kind (code + 1)
 next-is Reprogramming code i l = (omega arith, omega arith)
 next-is Ping code i l = absurd (let z : ⊥ = omega arith in z)
+next-is Rates code i l = absurd (let z : ⊥ = omega arith in z)
 
 three-calls : (tries : ℕ) → CallsKept (callsAt tries)
 three-calls tries = go (ltb tries 2) refl
@@ -79,6 +84,8 @@ three-calls tries = go (ltb tries 2) refl
 pub sound-power-up : CrateInvariant Reprogramming crateAtPowerUp
 sound-power-up =
     record {
+      length-rates = refl;
+      rates = λ j. rw (zeros 120 j) (omega arith);
       length-dna = refl;
       length-calls = refl;
       length-errors = refl;
@@ -95,15 +102,17 @@ pub sound-begun : (last kind : PassKind) (w : ℕ) (k : Crate) → CrateInvarian
 unfolding begunCrate
 sound-begun last kind w k s =
     record {
-      length-dna = length-kept kind (k .dna) (s .length-dna);
-      length-calls = length-kept kind (k .calls) (s .length-calls);
-      length-errors = length-kept kind (k .«crc_errors») (s .length-errors);
+      length-rates = length-kept (isRatePass kind) 120 (k .rates) (s .length-rates);
+      length-dna = length-kept (clearsList kind) 10 (k .dna) (s .length-dna);
+      length-calls = length-kept (clearsList kind) 10 (k .calls) (s .length-calls);
+      length-errors = length-kept (clearsList kind) 10 (k .«crc_errors») (s .length-errors);
       length-failed = refl;
       board = next-most kind w 0;
       code = λ h. first-is kind;
       tries = omega arith;
-      calls = each-kept CallsKept kind (k .calls) (omega arith) (s .calls);
-      dna = each-kept DnaKept kind (k .dna) (omega arith) (s .dna);
+      rates = each-kept (λ (j n : ℕ). n ≤ measurementBound (4 + j)) (isRatePass kind) 120 (k .rates) (λ j. omega arith) (s .rates);
+      calls = each-kept (λ (b : ℕ). CallsKept) (clearsList kind) 10 (k .calls) (λ b. omega arith) (s .calls);
+      dna = each-kept (λ (b : ℕ). DnaKept) (clearsList kind) 10 (k .dna) (λ b. omega arith) (s .dna);
       failed = λ b. inl (zeros 10 b);
     }
 
@@ -115,6 +124,8 @@ module _ (kind : PassKind) (w : ℕ) where
   unfolding placed
   sound-placed k b code tries l i t s =
       record {
+        length-rates = s .length-rates;
+        rates = s .rates;
         length-dna = s .length-dna;
         length-calls = s .length-calls;
         length-errors = s .length-errors;
@@ -137,6 +148,8 @@ module _ (kind : PassKind) (w : ℕ) where
   unfolding withRecord
   sound-marked k h s =
       record {
+        length-rates = s .length-rates;
+        rates = s .rates;
         length-dna = s .length-dna;
         length-calls = s .length-calls;
         length-errors = s .length-errors;
@@ -150,7 +163,7 @@ module _ (kind : PassKind) (w : ℕ) where
       }
 
   module _ (k : Crate) (h : Judged) where
-    length-noted : (l : List ℕ) (n : ℕ) → length l ≡ 10 → length (withEntryIn k l n) ≡ 10
+    length-noted : (l : List ℕ) (n : ℕ) → length l ≡ 10 → length (withEntryIn (k .code) (k .board) l n) ≡ 10
     unfolding withEntryIn
     length-noted l n e = go (eqb (k .code) 4)
       where
@@ -158,7 +171,8 @@ module _ (kind : PassKind) (w : ℕ) where
         go true = length-set l (k .board) n ∙ e
         go false = e
 
-    each-noted : (P : ℕ → Type 0) (l : List ℕ) (n : ℕ) → (k .code ≡ 4 → P n) → ((b : ℕ) → P (getD l b 0)) → (b : ℕ) → P (getD (withEntryIn k l n) b 0)
+    each-noted : (P : ℕ → Type 0) (l : List ℕ) (n : ℕ) → (k .code ≡ 4 → P n) → ((b : ℕ) → P (getD l b 0))
+        → (b : ℕ) → P (getD (withEntryIn (k .code) (k .board) l n) b 0)
     unfolding withEntryIn
     each-noted P l n p f b = go (eqb (k .code) 4) refl
       where
@@ -166,12 +180,31 @@ module _ (kind : PassKind) (w : ℕ) where
         go true e = each-set P l (k .board) n (p (eqb-true _ _ e)) f b
         go false e = f b
 
-    -- a good reply to a ping carries a DNA "below 2^57"
-    module _ (below : k .code ≡ 4 → h .good ≡ true → h .dna < idLimit) where
-      sound-noted : h .good ≡ true → CrateInvariant kind k → CrateInvariant kind (withEntry k h)
-      unfolding withEntry
-      sound-noted g s =
+    -- a good reply to a ping carries a DNA "below 2^57", and one with rates twelve words within their bounds
+    module _ (below : k .code ≡ 4 → h .good ≡ true → h .dna < idLimit) (twelve : length (h .rates) ≡ 12)
+        (bounded : k .code ≡ 5 → h .good ≡ true → RatesKept (h .rates)) where
+      length-rated : k .board < 10 → length (k .rates) ≡ 120 → length (withRatesIn (k .code) (k .board) (k .rates) (h .rates)) ≡ 120
+      unfolding withRatesIn
+      length-rated d e = go (eqb (k .code) 5)
+        where
+          go : (t : Bool) → length (cond t (withTwelve (k .board) (k .rates) (h .rates)) (k .rates)) ≡ 120
+          go true = length-twelve (k .board) (k .rates) (h .rates) d e twelve
+          go false = e
+
+      rates-rated : k .board < 10 → length (k .rates) ≡ 120 → h .good ≡ true → RatesKept (k .rates)
+          → RatesKept (withRatesIn (k .code) (k .board) (k .rates) (h .rates))
+      unfolding withRatesIn
+      rates-rated d e g f = go (eqb (k .code) 5) refl
+        where
+          go : (t : Bool) → eqb (k .code) 5 ≡ t → RatesKept (cond t (withTwelve (k .board) (k .rates) (h .rates)) (k .rates))
+          go true q = kept-twelve (k .board) (k .rates) (h .rates) d e twelve f (bounded (eqb-true _ _ q) g)
+          go false q = f
+
+      sound-noted : k .board < 10 → h .good ≡ true → CrateInvariant kind k → CrateInvariant kind (withReply k h)
+      unfolding noted
+      sound-noted d g s =
           record {
+            length-rates = length-rated d (s .length-rates);
             length-dna = length-noted (k .dna) (h .dna) (s .length-dna);
             length-calls = length-noted (k .calls) (callsAt (k .tries)) (s .length-calls);
             length-errors = length-noted (k .«crc_errors») (h .«crc_errors») (s .length-errors);
@@ -180,19 +213,21 @@ module _ (kind : PassKind) (w : ℕ) where
             code = s .code;
             tries = s .tries;
             calls = each-noted CallsKept (k .calls) (callsAt (k .tries)) (λ e. three-calls (k .tries)) (s .calls);
+            rates = rates-rated d (s .length-rates) g (s .rates);
             dna = each-noted DnaKept (k .dna) (h .dna) (λ e. let l = below e g in omega arith) (s .dna);
             failed = s .failed;
           }
 
       pub sound-after : (lent : List ℕ) → CrateInvariant kind k → CrateInvariant kind (crateAfter kind w k h lent)
+      unfolding noted
       sound-after lent s =
           after-any kind w k h (CrateInvariant kind)
           (record {
             same = s;
             next-step = λ d g l.
-                sound-placed (withEntry k h) (k .board) (k .code + 1) 0 (s .board) (λ u. next-is kind (k .code) (s .code d) l) (omega arith)
-                (sound-noted g s);
-            next-board = λ d g l. sound-advanced (withEntry k h) (sound-noted g s);
+                sound-placed (withReply k h) (k .board) (k .code + 1) 0 (s .board) (λ u. next-is kind (k .code) (s .code d) l) (omega arith)
+                (sound-noted d g s);
+            next-board = λ d g l. sound-advanced (withReply k h) (sound-noted d g s);
             again = λ d l. sound-placed k (k .board) (k .code) (k .tries + 1) (s .board) (s .code) (omega arith) s;
             failed = λ d l. sound-advanced (withRecord k) (sound-marked k d s);
           })

@@ -1,5 +1,7 @@
 -- Laws that belong to no one function.
 pub mod Next
+pub mod Cleared
+pub mod BoardRates
 pub mod Answered
 pub mod Serving
 pub mod After

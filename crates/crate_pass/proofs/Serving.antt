@@ -6,7 +6,7 @@ use mathlib.Core.Bool.{Bool, true, false, cond}
 use mathlib.Core.List.{List, [], _++_}
 use lib.Dec.{ltb, leb}
 use lib.ListN.{set, length, drop}
-use borrow.Author.Tests.{lt-ltb, le-ltb, lt-leb, le-leb, ne-eqb}
+use borrow.Author.Tests.{lt-ltb, le-ltb, lt-leb, le-leb}
 use Rattle.refusals.specs.Tables.{Answer, given, refused}
 use Rattle.refusals.specs.Writing.{outputAfter, Wrote}
 use Rattle.refusals.specs.Refusals.{numberOf, placeOf}
@@ -25,7 +25,7 @@ use Rattle.crate_pass.specs.declared.Moved.{Moved}
 use Rattle.crate_pass.specs.declared.CrateResult.{CrateResult}
 use Rattle.crate_pass.specs.declared.Outcome.{Outcome}
 use Rattle.crate_pass.specs.declared.Outcome.the-variants.{Good, Again, BoardFailed}
-use Rattle.crate_pass.specs.Crate.{isDone, countedFrame, callsAt, withEntryIn, placed, advanced, stepped, withEntry, withRecord}
+use Rattle.crate_pass.specs.Crate.{isDone, countedFrame, placed, advanced, stepped, noted, withRecord}
 use Rattle.crate_pass.specs.Crate.{withOutcome, saysDone, afterGoodReply, afterFailedSend, moved, replyMeaning, unlessRefused}
 use Rattle.crate_pass.specs.Crate.{servedAnswer, frameDue, Serves}
 use Rattle.crate_pass.specs.CodeShape.{nextPlace, placeAfter}
@@ -40,38 +40,53 @@ module _ (kind : PassKind) (w : ℕ) (k : Crate) (h : Judged) where
 
   -- `to` and `n`: the place where it goes on, and its number of frames there
   module _ (to : Place) (et : to ≡ onward) (n : ℕ) (en : n ≡ countedFrame (to .board) (k .sent)) where
-    abbrev crateWith : List ℕ → List ℕ → List ℕ → List ℕ → Crate
-    crateWith dna calls errors failed =
-        record { dna = dna; calls = calls; «crc_errors» = errors; failed = failed; sent = n; board = to .board; code = to .code; tries = to .tries }
+    -- the crate there, with what it keeps of its boards as it was
+    abbrev there : Crate
+    there =
+        record {
+          rates = k .rates;
+          dna = k .dna;
+          calls = k .calls;
+          «crc_errors» = k .«crc_errors»;
+          failed = k .failed;
+          sent = n;
+          board = to .board;
+          code = to .code;
+          tries = to .tries;
+        }
 
     abbrev movedWith : (Bool → Outcome) → Crate → Moved
     movedWith outcome state = record { state = state; outcome = outcome (leb 10 (to .board)) }
 
-    -- a good reply to a ping, and to another frame
-    pub moved-noted : (m : ℕ) → m ≡ callsAt (k .tries) → h .good ≡ true → k .code ≡ 4
-        → movedWith Good
-        (crateWith (set (k .dna) (k .board) (h .dna)) (set (k .calls) (k .board) m) (set (k .«crc_errors») (k .board) (h .«crc_errors»)) (k .failed))
-        ≡ moved kind w k h
-    unfolding placeAfter nextPlace afterGoodReply stepped withEntry withEntryIn advanced placed
-    moved-noted m em g q = rw (em, en, et) (rw (g, q) refl)
-
-    pub moved-good : h .good ≡ true → (k .code ≡ 4 → ⊥)
-        → movedWith Good (crateWith (k .dna) (k .calls) (k .«crc_errors») (k .failed)) ≡ moved kind w k h
-    unfolding placeAfter nextPlace afterGoodReply stepped withEntry withEntryIn advanced placed
-    moved-good g q = go (ltb (k .code) 3) refl
+    -- a good reply
+    pub moved-good : (state : Crate) → state ≡ noted (k .board) (k .code) (k .tries) h there → h .good ≡ true
+        → movedWith Good state ≡ moved kind w k h
+    unfolding placeAfter nextPlace afterGoodReply stepped noted advanced placed
+    moved-good state es g = rw es (go (ltb (k .code) 3) refl)
       where
-        go : (t : Bool) → ltb (k .code) 3 ≡ t → movedWith Good (crateWith (k .dna) (k .calls) (k .«crc_errors») (k .failed)) ≡ moved kind w k h
-        go true l = rw (en, et) (rw (g, ne-eqb _ _ q, l) refl)
-        go false l = rw (en, et) (rw (g, ne-eqb _ _ q, l) refl)
+        go : (t : Bool) → ltb (k .code) 3 ≡ t → movedWith Good (noted (k .board) (k .code) (k .tries) h there) ≡ moved kind w k h
+        go true l = rw (en, et) (rw (g, l) refl)
+        go false l = rw (en, et) (rw (g, l) refl)
 
     -- a first or second miss, and a third
-    pub moved-again : h .good ≡ false → k .tries < 2
-        → movedWith Again (crateWith (k .dna) (k .calls) (k .«crc_errors») (k .failed)) ≡ moved kind w k h
+    pub moved-again : h .good ≡ false → k .tries < 2 → movedWith Again there ≡ moved kind w k h
     unfolding placeAfter nextPlace afterFailedSend placed
     moved-again g l = rw (en, et) (rw (g, lt-ltb _ _ l) refl)
 
     pub moved-failed : h .good ≡ false → 2 ≤ k .tries
-        → movedWith BoardFailed (crateWith (k .dna) (k .calls) (k .«crc_errors») (set (k .failed) (k .board) (k .code))) ≡ moved kind w k h
+        → movedWith BoardFailed
+        (record {
+          rates = k .rates;
+          dna = k .dna;
+          calls = k .calls;
+          «crc_errors» = k .«crc_errors»;
+          failed = set (k .failed) (k .board) (k .code);
+          sent = n;
+          board = to .board;
+          code = to .code;
+          tries = to .tries;
+        })
+        ≡ moved kind w k h
     unfolding placeAfter nextPlace afterFailedSend withRecord advanced placed
     moved-failed g l = rw (en, et) (rw (g, le-ltb _ _ l) refl)
 

@@ -1,10 +1,10 @@
--- 01, Slow control: one crate in a pass. Its place is a board and a code; crates/any_order shows that it follows the steps of a pass.
-use Prim.Native.Nat.{ℕ, zero, suc, _+_, _-_}
+-- 01, Slow control, and 02, i: one crate in a pass. Its place is a board and a code; crates/any_order shows that it follows the steps of a pass.
+use Prim.Native.Nat.{ℕ, zero, suc, _+_, _*_, _-_}
 use mathlib.Core.Path.{_≡_}
 use mathlib.Core.Bool.{Bool, true, false, cond, _||_}
-use mathlib.Core.List.{List, [], _∷_}
+use mathlib.Core.List.{List, [], _∷_, _++_}
 use lib.Dec.{ltb, leb, eqb}
-use lib.ListN.{set, replicate}
+use lib.ListN.{set, take, drop, replicate}
 use Rattle.refusals.specs.Tables.{Answer, given, refused, Rule, rule, lowest, refusalMeaning}
 use Rattle.refusals.specs.Writing.{tooShort, outputAfter}
 use Rattle.configuration.specs.Configuration.{flagSet}
@@ -13,7 +13,7 @@ use Rattle.steps.specs.Steps.{stepFrame, judgedEvent}
 use Rattle.steps.specs.declared.Event.{Event}
 use Rattle.steps.specs.declared.Judged.{Judged}
 use Rattle.crate_pass.specs.declared.PassKind.{PassKind}
-use Rattle.crate_pass.specs.declared.PassKind.the-variants.{Reprogramming, Ping}
+use Rattle.crate_pass.specs.declared.PassKind.the-variants.{Reprogramming, Ping, Rates}
 use Rattle.crate_pass.specs.declared.Outcome.{Outcome}
 use Rattle.crate_pass.specs.declared.Outcome.the-variants.{Good, Again, BoardFailed}
 use Rattle.crate_pass.specs.declared.ReplyAnswer.{ReplyAnswer}
@@ -22,10 +22,11 @@ use Rattle.crate_pass.specs.declared.Crate.{Crate}
 use Rattle.crate_pass.specs.declared.Moved.{Moved}
 use Rattle.crate_pass.specs.declared.CrateResult.{CrateResult}
 
--- "In a reprogramming pass each crate serves its active boards ..; in a ping, all ten"
+-- "In a reprogramming pass each crate serves its active boards ..; in a ping, all ten"; 02, i: "a rate pass over the active boards"
 abbrev pub serves : PassKind → ℕ → ℕ → Bool
 serves Reprogramming w b = flagSet w b
 serves Ping w b = true
+serves Rates w b = flagSet w b
 
 -- "in rising order": the first board that the pass serves of n from b on, or 10
 unfoldable pub firstServed : PassKind → ℕ → ℕ → ℕ → ℕ
@@ -35,10 +36,11 @@ firstServed kind w (suc n) b = cond (serves kind w b) b (firstServed kind w n (s
 unfoldable pub nextBoard : PassKind → ℕ → ℕ → ℕ
 nextBoard kind w b = firstServed kind w (10 - b) b
 
--- "with codes 1, 2, 3; in a ping .. with code 4"
+-- "with codes 1, 2, 3; in a ping .. with code 4"; 02, i: "a rate pass .. with code 5"
 abbrev pub firstCode : PassKind → ℕ
 firstCode Reprogramming = 1
 firstCode Ping = 4
+firstCode Rates = 5
 
 -- ---- power-up, and the begin of a pass
 
@@ -60,10 +62,11 @@ silent = record { dna = 0; calls = 0; «crc_errors» = 0 }
 abbrev pub isDone : Crate → Bool
 isDone k = leb 10 (k .board)
 
--- "an empty list, no failure records", and the number of frames "is 0 before any" pass
+-- "an empty list, no failure records", and the number of frames "is 0 before any" pass; rates are "zeros before the first" rate pass (02, i)
 abbrev pub crateAtPowerUp : Crate
 crateAtPowerUp =
     record {
+      rates = replicate 120 0;
       dna = replicate 10 0;
       calls = replicate 10 0;
       «crc_errors» = replicate 10 0;
@@ -82,14 +85,25 @@ sentAt board = cond (ltb board 10) 1 0
 abbrev pub clearsList : PassKind → Bool
 clearsList Reprogramming = false
 clearsList Ping = true
+clearsList Rates = false
+
+-- a list of n numbers that is cleared, or kept
+abbrev pub unlessCleared : Bool → ℕ → List ℕ → List ℕ
+unlessCleared clears n ns = cond clears (replicate n 0) ns
 
 abbrev pub kept : PassKind → List ℕ → List ℕ
-kept kind ns = cond (clearsList kind) (replicate 10 0) ns
+kept kind ns = unlessCleared (clearsList kind) 10 ns
 
--- records "are cleared when a pass begins"
+abbrev pub isRatePass : PassKind → Bool
+isRatePass Reprogramming = false
+isRatePass Ping = false
+isRatePass Rates = true
+
+-- records "are cleared when a pass begins"; 02, i: "Inactive or failed boards have zeros", so a rate pass clears the rates
 unfoldable pub begunCrate : PassKind → ℕ → Crate → Crate
 begunCrate kind w k =
     record {
+      rates = unlessCleared (isRatePass kind) 120 (k .rates);
       dna = kept kind (k .dna);
       calls = kept kind (k .calls);
       «crc_errors» = kept kind (k .«crc_errors»);
@@ -110,6 +124,7 @@ countedFrame b n = cond (ltb b 10) (cond (ltb n 65535) (n + 1) n) n
 unfoldable pub placed : Crate → ℕ → ℕ → ℕ → Crate
 placed k b code tries =
     record {
+      rates = k .rates;
       dna = k .dna;
       calls = k .calls;
       «crc_errors» = k .«crc_errors»;
@@ -132,17 +147,27 @@ stepped kind w k = cond (ltb (k .code) 3) (placed k (k .board) (k .code + 1) 0) 
 abbrev pub callsAt : ℕ → ℕ
 callsAt tries = cond (ltb tries 2) (tries + 1) 3
 
--- a number for the board, among those of the boards, where its frame was a ping
-unfoldable pub withEntryIn : Crate → List ℕ → ℕ → List ℕ
-withEntryIn k ns n = cond (eqb (k .code) 4) (set ns (k .board) n) ns
+-- a number for board b, among those of the boards, where its frame was a ping
+unfoldable pub withEntryIn : ℕ → ℕ → List ℕ → ℕ → List ℕ
+withEntryIn code b ns n = cond (eqb code 4) (set ns b n) ns
 
--- the list with an entry for the board: the calls that it needed, its DNA, and its CRC errors
-unfoldable pub withEntry : Crate → Judged → Crate
-withEntry k h =
+-- twelve words for board b, among those of the boards
+unfoldable pub withTwelve : ℕ → List ℕ → List ℕ → List ℕ
+withTwelve b words twelve = take (12 * b) words ++ (twelve ++ drop (12 * b + 12) words)
+
+-- the same, where its frame asked for rates (02, i)
+unfoldable pub withRatesIn : ℕ → ℕ → List ℕ → List ℕ → List ℕ
+withRatesIn code b words twelve = cond (eqb code 5) (withTwelve b words twelve) words
+
+-- what a good reply to a frame of this code, after so many sends that failed, says of board b: to a ping, its entry of the list, with the calls that it
+-- needed, its DNA and its CRC errors; with rates, its twelve words
+unfoldable pub noted : ℕ → ℕ → ℕ → Judged → Crate → Crate
+noted b code tries h k =
     record {
-      dna = withEntryIn k (k .dna) (h .dna);
-      calls = withEntryIn k (k .calls) (callsAt (k .tries));
-      «crc_errors» = withEntryIn k (k .«crc_errors») (h .«crc_errors»);
+      rates = withRatesIn code b (k .rates) (h .rates);
+      dna = withEntryIn code b (k .dna) (h .dna);
+      calls = withEntryIn code b (k .calls) (callsAt tries);
+      «crc_errors» = withEntryIn code b (k .«crc_errors») (h .«crc_errors»);
       failed = k .failed;
       sent = k .sent;
       board = k .board;
@@ -150,10 +175,15 @@ withEntry k h =
       tries = k .tries;
     }
 
+-- with what the reply to the outstanding frame says
+abbrev pub withReply : Crate → Judged → Crate
+withReply k h = noted (k .board) (k .code) (k .tries) h k
+
 -- "the board gets a failure record": the code of the step that failed
 unfoldable pub withRecord : Crate → Crate
 withRecord k =
     record {
+      rates = k .rates;
       dna = k .dna;
       calls = k .calls;
       «crc_errors» = k .«crc_errors»;
@@ -177,7 +207,7 @@ saysDone (BoardFailed done) = done
 
 -- "A good reply moves to the next step"
 unfoldable pub afterGoodReply : PassKind → ℕ → Crate → Judged → Moved
-afterGoodReply kind w k h = withOutcome Good (stepped kind w (withEntry k h))
+afterGoodReply kind w k h = withOutcome Good (stepped kind w (withReply k h))
 
 -- "A bad reply, or a time-up, sends again; after the third send of a step fails, the board gets a failure record and its other steps are
 -- dropped"

@@ -1,8 +1,9 @@
-// One crate's part in a pass: the frame that is outstanding on it, its tries, its number of frames, what failed, and its part of the FTU list.
+// One crate's part in a pass: the frame that is outstanding on it, its tries, its number of frames, what failed, its part of the FTU list, and its
+// rates.
 ghost use mathlib.Core.Path.{_≡_};
 ghost use Prim.Native.Nat.{_<_};
-ghost use Rattle.crate_pass.specs.Crate.{nextBoard, firstCode, callsAt, clearsList, crateAtPowerUp, isDone, sentAt, begunCrate, countedFrame};
-ghost use Rattle.crate_pass.specs.Crate.{moved, judgedOn, Serves};
+ghost use Rattle.crate_pass.specs.Crate.{nextBoard, firstCode, callsAt, clearsList, isRatePass, crateAtPowerUp, isDone, sentAt, begunCrate};
+ghost use Rattle.crate_pass.specs.Crate.{countedFrame, withTwelve, noted, moved, judgedOn, Serves};
 ghost use Rattle.crate_pass.specs.declared.ReplyAnswer.the-variants.{Refused};
 ghost use Rattle.crate_pass.specs.CodeShape.{nextPlace, placeAfter};
 use configuration::flag_set;
@@ -12,10 +13,12 @@ use steps::Judged;
 use steps::judge_event;
 use steps::step_frame;
 use steps::write_frame;
+use words::copy_words;
 
 pub enum PassKind {
     Reprogramming,
     Ping,
+    Rates,
 }
 
 // How a reply or a time-up was served, each with whether the crate is done.
@@ -33,6 +36,8 @@ pub enum ReplyAnswer {
 
 // The arrays stand first and what changes most stands last, so that a begin clears an array at once and little is copied.
 pub struct Crate {
+    // The rates of this rate pass or the last, each board's twelve words at 12 times its number.
+    pub rates: [u16; 120],
     // The boards' part of the FTU list, each board's at its number: its DNA, the calls that it needed, its CRC error byte.
     pub dna: [u64; 10],
     pub calls: [u8; 10],
@@ -89,6 +94,7 @@ fn next_board(kind: PassKind, word: u16, from: u8) -> u8
     match kind {
         PassKind::Reprogramming => next_active(word, from),
         PassKind::Ping => if from < 10 { from } else { 10 },
+        PassKind::Rates => next_active(word, from),
     }
 }
 
@@ -99,6 +105,7 @@ fn first_code(kind: PassKind) -> u8
     match kind {
         PassKind::Reprogramming => 1,
         PassKind::Ping => 4,
+        PassKind::Rates => 5,
     }
 }
 
@@ -172,14 +179,38 @@ fn clears_list(kind: PassKind) -> bool
     match kind {
         PassKind::Reprogramming => false,
         PassKind::Ping => true,
+        PassKind::Rates => false,
     }
 }
 
-// Nothing outstanding, no frame sent, no failure, and an empty part of the list.
+// Whether it is a rate pass, which clears the rates as it begins.
+pub fn is_rate_pass(kind: PassKind) -> bool
+    ensures { λ r. ⌜ r ≡ isRatePass kind ⌝ }
+{
+    match kind {
+        PassKind::Reprogramming => false,
+        PassKind::Ping => false,
+        PassKind::Rates => true,
+    }
+}
+
+// The words of the boards with those of one put in their place.
+fn put_twelve(board: usize, words: [u16; 120], twelve: [u16; 12]) -> [u16; 120]
+    requires { ⌜ board < 10 ⌝ }
+    ensures { λ r. ⌜ r ≡ withTwelve board words twelve ⌝ }
+{
+    let mut all = words;
+    let at = 12 * board;
+    copy_words(&twelve, &mut all[at..]);
+    all
+}
+
+// Nothing outstanding, no frame sent, no failure, an empty part of the list, and zeros for rates.
 pub fn crate_at_power_up() -> Crate
     ensures { λ r. ⌜ r ≡ crateAtPowerUp ⌝ }
 {
     Crate {
+        rates: [0; 120],
         dna: [0; 10],
         calls: [0; 10],
         crc_errors: [0; 10],
@@ -209,7 +240,7 @@ impl Crate {
         10 <= self.board
     }
 
-    // The crate as a pass begins; a ping clears its part of the list.
+    // The crate as a pass begins; a ping clears its part of the list, a rate pass its rates.
     pub fn begin(mut self, kind: PassKind, word: u16) -> Crate
         ensures { λ r. ⌜ r ≡ begunCrate kind word self ⌝ }
     {
@@ -223,6 +254,30 @@ impl Crate {
             self.dna = [0; 10];
             self.calls = [0; 10];
             self.crc_errors = [0; 10];
+            return self;
+        }
+        if is_rate_pass(kind) {
+            self.rates = [0; 120];
+        }
+        self
+    }
+
+    // What a good reply to a frame of this code, after so many sends that failed, says of a board.
+    fn noted(mut self, board: u8, code: u8, tries: u8, judged: Judged) -> Crate
+        requires { ⌜ board < 10 ⌝ }
+        ensures { λ r. ⌜ r ≡ noted board code tries judged self ⌝ }
+    {
+        let at = board as usize;
+        if code == 4 {
+            self.dna[at] = judged.dna;
+            self.calls[at] = calls_at(tries);
+            self.crc_errors[at] = judged.crc_errors;
+            return self;
+        }
+        if code == 5 {
+            let words = self.rates;
+            let twelve = judged.rates;
+            self.rates = put_twelve(at, words, twelve);
         }
         self
     }
@@ -244,13 +299,8 @@ impl Crate {
         self.tries = to.tries;
         self.sent = count_frame(to.board, sent);
         if judged.good {
-            if code == 4 {
-                self.dna[at] = judged.dna;
-                self.calls[at] = calls_at(tries);
-                self.crc_errors[at] = judged.crc_errors;
-            }
             return Moved {
-                state: self,
+                state: self.noted(board, code, tries, judged),
                 outcome: Outcome::Good(done),
             };
         }

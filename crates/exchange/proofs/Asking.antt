@@ -6,23 +6,23 @@ use mathlib.Core.Bool.{Bool, true, false}
 use mathlib.Core.List.{List, [], _∷_, _++_}
 use native.Mathlib.Omega.{arith}
 use lib.ListN.{length, take, getD, length-append}
-use borrow.Author.Tests.{eq-eqb, le-ltb}
+use borrow.Author.Tests.{eq-eqb, le-ltb, eqb-true, not-false}
 use Rattle.refusals.specs.Tables.{Rule, lowest}
 use Rattle.refusals.specs.Writing.{tooShort, writtenMeaning, Wrote}
 use Rattle.refusals.specs.declared.Written.{Written}
 use Rattle.refusals.proofs.Tables.{Clear, row-off}
 use Rattle.words.specs.Words.{wordsIn}
-use Rattle.bounds.specs.Bounds.{measurementBound}
-use Rattle.bounds.proofs.Lent.{lent-length}
-use Rattle.blocks.specs.Blocks.{headerWords, measurementRules, wrongId, blockRules, WroteBlock}
+use Rattle.blocks.specs.Blocks.{headerWords, temperatureRules, wrongId, blockRules, WroteBlock}
 use Rattle.blocks.specs.declared.Header.{Header}
 use Rattle.blocks.proofs.Laws.{length-header}
+use Rattle.blocks.proofs.Dynamic.{length-dynamic}
 use Rattle.ftu_list.specs.List.{listBody}
 use Rattle.ftu_list.proofs.Laws.{length-body}
 use Rattle.steps.proofs.Lengths.{step-length}
 use Rattle.four_crates.specs.FourCrates.{sentMeaning}
 use Rattle.four_crates.specs.declared.FramesSent.{FramesSent}
 use Rattle.four_crates.proofs.Entries.{forty}
+use Rattle.board.specs.State.{finishedRates}
 use Rattle.board.specs.SlowControl.{fetchRules, frameAt, sentAnswer}
 use Rattle.board.specs.SentOut.{headerOf, dynamicBodyOf, listRules, listOf, failureRules, failureBodyOf, SendsStatic, SendsDynamic, SendsList, SendsFailure}
 use Rattle.board.specs.declared.Board.{Board}
@@ -58,9 +58,9 @@ module _ (β : Board) where
   length-failure : (n : ℕ) → length (failureBodyOf β n) ≡ 29
   length-failure n = ap suc (step-length (β .block) _ _ _)
 
-  -- 6 refuses unless the measurements are 484
-  length-dynamic : (m : List ℕ) → Clear (measurementRules m) → length (dynamicBodyOf β m) ≡ 487
-  length-dynamic m clear = let n = lent-length measurementBound 484 m clear in omega arith
+  -- 6 refuses unless the temperatures are four
+  length-sent : (t : List ℕ) → length (finishedRates β) ≡ 480 → Clear (temperatureRules t) → length (dynamicBodyOf β t) ≡ 487
+  length-sent t long clear = length-dynamic t (β .run .«on_time») (finishedRates β) (eqb-true _ _ (not-false _ (clear .0))) long
 
 -- ---- an order in its form, and in another
 
@@ -114,12 +114,12 @@ module _ (β : Board) (b : List ℕ) (s : Response) where
         let d = length-failure β (getD b 0 0) in
         block-asked n (failureRules β (getD b 0 0)) 29 (failureBodyOf β (getD b 0 0)) (λ _. omega arith) h _ _ (taken _ _ (eq-eqb _ _ l)) refl k
 
-    pub dynamic-asked : length b % 2 ≡ 0 → length out ≡ 498 → (m : List ℕ) → m ≡ wordsIn b → SendsDynamic β m out w after
+    pub dynamic-asked : length b % 2 ≡ 0 → length out ≡ 498 → (t : List ℕ) → t ≡ wordsIn b → SendsDynamic β t out w after
         → PrintsWrittenWords s (writtenMeaning w) → PrintsInWords s after (printedAnswer β (anyWords otherForm dynamic b))
     unfolding printedAnswer
-    dynamic-asked l n m em h k =
-        block-asked n (measurementRules m) 487 (dynamicBodyOf β m) (λ clear. let d = length-dynamic β m clear in omega arith) h _ _
-        (taken _ _ (eq-eqb _ _ l) ∙ sym (ap dynamic em)) refl k
+    dynamic-asked l n t et h k =
+        block-asked n (temperatureRules t) 487 (dynamicBodyOf β t) (λ clear. let d = length-sent β t (h .long) clear in omega arith) (h .block) _ _
+        (taken _ _ (eq-eqb _ _ l) ∙ sym (ap dynamic et)) refl k
 
   module _ (l : length b ≡ 1) (f : FramesSent) (e : sentMeaning f ≡ sentAnswer β (getD b 0 0)) where
     pub sent-asked : Prints s (sentPrinted (sentMeaning f)) → Prints s (printedAnswer β (oneByte otherForm framesSent b))

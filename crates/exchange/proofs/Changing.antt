@@ -35,7 +35,12 @@ use Rattle.crate_pass.proofs.Serving.{moved-done}
 use Rattle.board.specs.State.{crateAt, withCrates, withRun, boardFor, powerUpMeaning, powerUpAnswer, PowersUp}
 use Rattle.board.specs.Commands.{Obeys, TriggersOn}
 use Rattle.board.specs.SlowControl.{judgedAt, movedAt, replyRules, replyAnswer, boardReplied, bytesReplied, Replies}
+use Rattle.board.specs.RatePass.{begunMeaning, Begins}
 use Rattle.board.specs.declared.Board.{Board}
+use Rattle.board.specs.declared.PassBegun.{PassBegun}
+use Rattle.board.specs.declared.PassBegun.the-variants.{Begun}
+use Rattle.board.specs.declared.PassBegun.the-variants as passBegun
+use Rattle.board.specs.declared.BeginResult.{BeginResult}
 use Rattle.board.specs.declared.PowerUp.the-variants.{Up, Refused}
 use Rattle.board.specs.declared.PowerUpResult.{PowerUpResult}
 use Rattle.board.specs.declared.CommandResult.{CommandResult}
@@ -47,10 +52,10 @@ use Rattle.texts.specs.declared.Response.the-variants.{One}
 use Rattle.responses.specs.Responses.{refusalPrinted, commandPrinted, outcomePrinted, Prints, PrintsOutcome, PrintsWrittenBytes}
 use Rattle.responses.specs.CodeShape.{PrintsInBytes}
 use Rattle.responses.proofs.Writing.{due-response}
-use Rattle.script.specs.Forms.{taking, oneByte, anyWords}
-use Rattle.exchange.specs.Orders.{Order, powerUp, command, clockStep, trigger, reply, timeUp, otherForm}
+use Rattle.script.specs.Forms.{taking, oneByte, noByte, anyWords}
+use Rattle.exchange.specs.Orders.{Order, powerUp, command, clockStep, trigger, reply, timeUp, beginRates, otherForm}
 use Rattle.exchange.specs.Orders.{areFields, fieldsFrom, replyFrom, powerUpOrder, clockOrder, triggerOrder}
-use Rattle.exchange.specs.Exchange.{powerUpPrinted, lentBytes, eventPrinted, printedAnswer, afterPowerUp, afterEvent, boardAfterOrder}
+use Rattle.exchange.specs.Exchange.{acceptedPrinted, lentBytes, eventPrinted, printedAnswer, afterPowerUp, afterEvent, boardAfterOrder}
 use Rattle.exchange.specs.CodeShape.{eventOrder, Answers, AnswersInBytes}
 use Rattle.exchange.specs.declared.Answered.{Answered}
 use Rattle.exchange.proofs.Asking.{taken}
@@ -103,7 +108,7 @@ module _ (β : Board) (b w : List ℕ) (l : length b ≡ 10) (e : w ≡ wordsIn 
       let a : powerUpAnswer id ≡ given tt = sym (h .answer) ∙ ap powerUpMeaning q in
       answers-as β _ _ _ power-up-as
       (record {
-        response = λ bytes words. sym (ap powerUpPrinted a);
+        response = λ bytes words. sym (ap acceptedPrinted a);
         board = h .board ∙ ap (λ (x : Answer Unit). boardFor x id (getD w 4 0)) a ∙ sym (ap (afterPowerUp β id (getD w 4 0)) a);
       })
 
@@ -113,7 +118,7 @@ module _ (β : Board) (b w : List ℕ) (l : length b ≡ 10) (e : w ≡ wordsIn 
   power-up-refused r s q k =
       let a : powerUpAnswer id ≡ refused (numberOf r) (placeOf r) = sym (h .answer) ∙ ap powerUpMeaning q in
       answers-as β _ _ _ power-up-as
-      (record { response = λ bytes words. k bytes words ∙ sym (ap powerUpPrinted a); board = sym (ap (afterPowerUp β id (getD w 4 0)) a) })
+      (record { response = λ bytes words. k bytes words ∙ sym (ap acceptedPrinted a); board = sym (ap (afterPowerUp β id (getD w 4 0)) a) })
 
 -- ---- C
 
@@ -223,3 +228,19 @@ module _ (β : Board) (b after : List ℕ) (a : Answered) where
 
   pub timed-up : length b ≡ 1 → AnswersInBytes β (timeUp (getD b 0 0)) a after → AnswersInBytes β (oneByte otherForm timeUp b) a after
   timed-up l h = subst (λ (o : Order). AnswersInBytes β o a after) (sym (taken _ _ (eq-eqb _ _ l))) h
+
+-- ---- B
+
+module _ (β : Board) (b : List ℕ) (l : length b ≡ 0) (r : BeginResult) (h : Begins β r) where
+  began : (s : Response) → Prints s (acceptedPrinted (begunMeaning (r .answer))) → Answers β (noByte otherForm beginRates b) (answered s (r .board))
+  unfolding printedAnswer boardAfterOrder
+  began s k =
+      answers-as β _ _ _ (sym (taken _ _ (eq-eqb _ _ l)))
+      (record { response = λ bytes words. k bytes words ∙ ap acceptedPrinted (h .answer); board = h .board })
+
+  pub rates-begun : r .answer ≡ Begun → Answers β (noByte otherForm beginRates b) (answered (One 0) (r .board))
+  rates-begun q = began (One 0) (λ bytes words. sym (ap (λ (x : PassBegun). acceptedPrinted (begunMeaning x)) q))
+
+  pub rates-refused : (x : Refusal) (s : Response) → r .answer ≡ passBegun.Refused x → Prints s (refusalPrinted (numberOf x) (placeOf x))
+      → Answers β (noByte otherForm beginRates b) (answered s (r .board))
+  rates-refused x s q k = began s (λ bytes words. k bytes words ∙ sym (ap (λ (y : PassBegun). acceptedPrinted (begunMeaning y)) q))

@@ -13,7 +13,7 @@ use Rattle.texts.specs.Texts.{Printed, question, responseMeaning}
 use Rattle.texts.specs.declared.Response.{Response}
 use Rattle.script.specs.Forms.{oneByte, noByte, anyWords, Row, found}
 use Rattle.far_end.specs.FarEnd.{readPacket, commandFrom, blockFrom}
-use Rattle.exchange.specs.Orders.{Order, otherForm, command, timeUp, firstFrame, framesSent, static, ftuList, failure, dynamic, farEnd}
+use Rattle.exchange.specs.Orders.{Order, otherForm, command, timeUp, beginRates, firstFrame, framesSent, static, ftuList, failure, dynamic, farEnd}
 use Rattle.exchange.specs.Orders.{replyFrom, powerUpOrder, clockOrder, triggerOrder, letters, orderOf}
 use Rattle.exchange.specs.Exchange.{printedAnswer, boardAfterOrder}
 use Rattle.exchange.specs.CodeShape.{boardOrder, askedBy, Answers, AnswersInBytes, AnswersBoth}
@@ -70,11 +70,15 @@ module _ (letter : ℕ) (b : List ℕ) where
   unfolding boardOrder
   orders-T e = rw e
 
+  pub orders-B : letter ≡ 66 → noByte otherForm beginRates b ≡ boardOrder letter b
+  unfolding boardOrder
+  orders-B e = rw e
+
   -- ---- other letters
   only-asked : (letter ≡ 80 → ⊥) → (letter ≡ 67 → ⊥) → (letter ≡ 75 → ⊥) → (letter ≡ 71 → ⊥) → (letter ≡ 82 → ⊥) → (letter ≡ 84 → ⊥)
-      → askedBy letter b ≡ boardOrder letter b
+      → (letter ≡ 66 → ⊥) → askedBy letter b ≡ boardOrder letter b
   unfolding askedBy boardOrder
-  only-asked p c k g r t = simp (ne-eqb _ _ p, ne-eqb _ _ c, ne-eqb _ _ k, ne-eqb _ _ g, ne-eqb _ _ r, ne-eqb _ _ t)
+  only-asked p c k g r t n = simp (ne-eqb _ _ p, ne-eqb _ _ c, ne-eqb _ _ k, ne-eqb _ _ g, ne-eqb _ _ r, ne-eqb _ _ t, ne-eqb _ _ n)
 
   module _ (β : Board) where
     pub asks-other : (letter ≡ 70 → ⊥) → (letter ≡ 78 → ⊥) → (letter ≡ 83 → ⊥) → (letter ≡ 76 → ⊥) → (letter ≡ 77 → ⊥) → (letter ≡ 68 → ⊥)
@@ -109,13 +113,13 @@ module _ (letter : ℕ) (b : List ℕ) where
         let l = keeps none ftuList otherForm refl refl in
         let m = keeps one (failure (getD b 0 0)) otherForm refl refl in
         let d = keeps even (dynamic (wordsIn b)) otherForm refl refl in
-        found-keeps (drop 6 (take 12 letters)) (f, (n, (s, (l, (m, (d, tt))))))
+        found-keeps (drop 7 (take 13 letters)) (f, (n, (s, (l, (m, (d, tt))))))
 
     pub orders-other : (letter ≡ 80 → ⊥) → (letter ≡ 67 → ⊥) → (letter ≡ 75 → ⊥) → (letter ≡ 71 → ⊥) → (letter ≡ 82 → ⊥) → (letter ≡ 84 → ⊥)
-        → (s : Response) (bytes words : List ℕ) → responseMeaning s bytes words ≡ printedAnswer β (askedBy letter b)
+        → (letter ≡ 66 → ⊥) → (s : Response) (bytes words : List ℕ) → responseMeaning s bytes words ≡ printedAnswer β (askedBy letter b)
         → AnswersBoth β (boardOrder letter b) (record { response = s; board = β }) bytes words
-    orders-other p c k g r t s bytes words h =
-        let e : askedBy letter b ≡ boardOrder letter b = only-asked p c k g r t in
+    orders-other p c k g r t n s bytes words h =
+        let e : askedBy letter b ≡ boardOrder letter b = only-asked p c k g r t n in
         record { response = h ∙ ap (printedAnswer β) e; board = sym asked-keeps ∙ ap (boardAfterOrder β) e }
 
 -- ---- the far end's letters
@@ -141,7 +145,7 @@ module _ (letter : ℕ) (b : List ℕ) where
 
   pub on-board : (letter ≡ 87 → ⊥) → (letter ≡ 88 → ⊥) → (letter ≡ 89 → ⊥) → boardOrder letter b ≡ orderOf letter b
   unfolding boardOrder orderOf
-  on-board w x y = more-rows (take 12 letters) (drop 12 letters) letter b (simp (ne-eqb _ _ w, ne-eqb _ _ x, ne-eqb _ _ y))
+  on-board w x y = more-rows (take 13 letters) (drop 13 letters) letter b (simp (ne-eqb _ _ w, ne-eqb _ _ x, ne-eqb _ _ y))
 
 -- ---- a letter's order, answered
 

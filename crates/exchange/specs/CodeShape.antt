@@ -15,12 +15,12 @@ use Rattle.exchange.specs.Exchange.{printedAnswer, boardAfterOrder}
 use Rattle.exchange.specs.declared.Answered.{Answered}
 use Rattle.exchange.specs.declared.ServedLine.{ServedLine}
 
--- the letters of the board alone, the first twelve; and of these, those that only ask, the last six
+-- the letters of the board alone, the first thirteen; and of these, those that only ask, the last six
 unfoldable pub boardOrder : ℕ → List ℕ → Order
-boardOrder letter b = found otherForm (take 12 letters) letter b
+boardOrder letter b = found otherForm (take 13 letters) letter b
 
 unfoldable pub askedBy : ℕ → List ℕ → Order
-askedBy letter b = found otherForm (drop 6 (take 12 letters)) letter b
+askedBy letter b = found otherForm (drop 7 (take 13 letters)) letter b
 
 -- the order of a reply or a time-up
 abbrev pub eventOrder : Event → ℕ → List ℕ → Order

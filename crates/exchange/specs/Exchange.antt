@@ -5,7 +5,7 @@ use mathlib.Core.List.{List, [], _∷_, _++_}
 use lib.ListN.{length, replicate}
 use Rattle.refusals.specs.Tables.{Answer, given, refused, Rule, lowest}
 use Rattle.packets.specs.Packets.{packetBytes}
-use Rattle.blocks.specs.Blocks.{headerWords, staticRules, measurementRules, wrongId}
+use Rattle.blocks.specs.Blocks.{headerWords, staticRules, temperatureRules, wrongId}
 use Rattle.ftu_list.specs.List.{listBody}
 use Rattle.command_reader.specs.Reading.{commandAnswer, usedOf}
 use Rattle.steps.specs.declared.Event.{Event}
@@ -15,21 +15,23 @@ use Rattle.run.specs.Run.{triggerNumber, triggerRules, afterAnswer}
 use Rattle.board.specs.State.{freshBoard, withRun, powerUpAnswer}
 use Rattle.board.specs.Commands.{boardAnswer, boardAfter, afterClockStep}
 use Rattle.board.specs.SlowControl.{frameAt, judgedAt, movedAt, replyAnswer, boardReplied, fetchRules, sentAnswer}
+use Rattle.board.specs.RatePass.{beginAnswer, boardBegun}
 use Rattle.board.specs.SentOut.{headerOf, dynamicBodyOf, listRules, listOf, failureRules, failureBodyOf}
 use Rattle.board.specs.declared.Board.{Board}
 use Rattle.script.specs.Script.{Line, passedOver, order, malformed}
 use Rattle.texts.specs.Texts.{Printed, question, numbers, inBytes, inWords, textOf, inFront}
 use Rattle.responses.specs.Responses.{refusalPrinted, commandPrinted, outcomePrinted, duePrinted}
 use Rattle.far_end.specs.FarEnd.{farEndPrinted}
-use Rattle.exchange.specs.Orders.{Order, powerUp, command, clockStep, trigger, reply, timeUp, firstFrame, framesSent}
+use Rattle.exchange.specs.Orders.{Order, powerUp, command, clockStep, trigger, reply, timeUp, beginRates, firstFrame, framesSent}
 use Rattle.exchange.specs.Orders.{static, ftuList, failure, dynamic, farEnd, otherForm, orderOf}
 use Rattle.exchange.specs.declared.ServedLine.{ServedLine}
 
 -- ---- what is printed
 
-abbrev pub powerUpPrinted : Answer Unit → Printed
-powerUpPrinted (given t) = numbers (0 ∷ [])
-powerUpPrinted (refused n p) = refusalPrinted n p
+-- `P`: "`0`; or `20`"; `B` (02, i): "`0` or `9`"
+abbrev pub acceptedPrinted : Answer Unit → Printed
+acceptedPrinted (given t) = numbers (0 ∷ [])
+acceptedPrinted (refused n p) = refusalPrinted n p
 
 abbrev pub sentPrinted : Answer ℕ → Printed
 sentPrinted (given n) = numbers (0 ∷ n ∷ [])
@@ -50,18 +52,19 @@ eventPrinted β c event bytes =
     outcomePrinted (replyAnswer β c h lentBytes) (frameDue (β .block) c (movedAt β c h .state))
 
 unfoldable pub printedAnswer : Board → Order → Printed
-printedAnswer β (powerUp id firmware) = powerUpPrinted (powerUpAnswer id)
+printedAnswer β (powerUp id firmware) = acceptedPrinted (powerUpAnswer id)
 printedAnswer β (command w) = commandPrinted (usedOf (commandAnswer w)) (boardAnswer β w)
 printedAnswer β (clockStep ticks) = numbers (0 ∷ [])
 printedAnswer β (trigger f) = duePrinted inBytes (lowest (triggerRules (β .run) f) (packetBytes (triggerNumber (β .run)) f))
 printedAnswer β (reply c bytes) = eventPrinted β c Reply bytes
 printedAnswer β (timeUp c) = eventPrinted β c TimeUp []
+printedAnswer β beginRates = acceptedPrinted (beginAnswer β)
 printedAnswer β (firstFrame c) = duePrinted inBytes (lowest (fetchRules β c) (frameAt β c))
 printedAnswer β (framesSent c) = sentPrinted (sentAnswer β c)
 printedAnswer β static = blockPrinted β (staticRules (β .block)) (β .block)
 printedAnswer β ftuList = blockPrinted β (listRules β) (listBody (listOf β))
 printedAnswer β (failure n) = blockPrinted β (failureRules β n) (failureBodyOf β n)
-printedAnswer β (dynamic m) = blockPrinted β (measurementRules m) (dynamicBodyOf β m)
+printedAnswer β (dynamic t) = blockPrinted β (temperatureRules t) (dynamicBodyOf β t)
 printedAnswer β (farEnd o) = farEndPrinted o
 printedAnswer β otherForm = question
 
@@ -82,12 +85,13 @@ boardAfterOrder β (clockStep ticks) = afterClockStep β ticks
 boardAfterOrder β (trigger f) = withRun β (afterAnswer (β .run) (lowest (triggerRules (β .run) f) 7))
 boardAfterOrder β (reply c bytes) = afterEvent β c Reply bytes
 boardAfterOrder β (timeUp c) = afterEvent β c TimeUp []
+boardAfterOrder β beginRates = boardBegun β
 boardAfterOrder β (firstFrame c) = β
 boardAfterOrder β (framesSent c) = β
 boardAfterOrder β static = β
 boardAfterOrder β ftuList = β
 boardAfterOrder β (failure n) = β
-boardAfterOrder β (dynamic m) = β
+boardAfterOrder β (dynamic t) = β
 boardAfterOrder β (farEnd o) = β
 boardAfterOrder β otherForm = β
 

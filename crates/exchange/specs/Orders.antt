@@ -18,6 +18,7 @@ pub data Order : Type 0 where
   trigger : Fields → Order
   reply : ℕ → List ℕ → Order
   timeUp : ℕ → Order
+  beginRates : Order
   firstFrame : ℕ → Order
   framesSent : ℕ → Order
   static : Order
@@ -81,6 +82,7 @@ letters =
     ∷ row "G" triggerOrder
     ∷ row "R" replyFrom
     ∷ row "T" (oneByte otherForm timeUp)
+    ∷ row "B" (noByte otherForm beginRates)
     ∷ row "F" (oneByte otherForm firstFrame)
     ∷ row "N" (oneByte otherForm framesSent)
     ∷ row "S" (noByte otherForm static)

@@ -8,11 +8,12 @@ ghost use Rattle.texts.specs.Texts.{responseMeaning};
 ghost use Rattle.responses.specs.Responses.{Prints};
 ghost use Rattle.responses.specs.CodeShape.{PrintsInBytes, PrintsInWords};
 ghost use Rattle.script.specs.Forms.{oneByte, noByte, anyWords};
-ghost use Rattle.exchange.specs.Orders.{command, timeUp, firstFrame, framesSent, static, ftuList, failure, dynamic, otherForm};
+ghost use Rattle.exchange.specs.Orders.{command, timeUp, beginRates, firstFrame, framesSent, static, ftuList, failure, dynamic, otherForm};
 ghost use Rattle.exchange.specs.Orders.{areFlags, areFields, fieldsFrom, powerUpOrder, clockOrder, triggerOrder, replyFrom};
 ghost use Rattle.exchange.specs.Exchange.{printedAnswer, ServesLine};
 ghost use Rattle.exchange.specs.CodeShape.{boardOrder, askedBy, eventOrder, Answers, AnswersInBytes, AnswersBoth, ServesOrder};
 use board::Board;
+use board::PassBegun;
 use board::PowerUp;
 use board::power_up;
 use far_end::serve_block;
@@ -209,6 +210,28 @@ fn time_up_order(board: Board, bytes: &[u8], out: &mut [u8; 28]) -> Answered
     event_order(board, bytes[0], Event::TimeUp, &bytes[1..], out)
 }
 
+// B: the begin of a rate pass.
+fn begin_rates_order(board: Board, bytes: &[u8]) -> Answered
+    ensures { λ r. ⌜ Answers board (noByte otherForm beginRates (now (bytes .entry))) r ⌝ }
+{
+    if bytes.len() != 0 {
+        return other_form(board);
+    }
+    let begun = board.begin_rate_pass();
+    let answer = begun.answer;
+    let next = begun.board;
+    match answer {
+        PassBegun::Begun => Answered {
+            response: Response::One(0),
+            board: next,
+        },
+        PassBegun::Refused(r) => Answered {
+            response: refusal_response(r),
+            board: next,
+        },
+    }
+}
+
 // ---- orders that only ask
 
 // F: the first frame of the pass on a crate.
@@ -264,7 +287,7 @@ fn failure_order(board: Board, bytes: &[u8], out: &mut [u16; 498]) -> Response
     words_response(board.failure_message(bytes[0] as usize, out))
 }
 
-// D: the dynamic block with these measurements.
+// D: the dynamic block with these temperatures.
 fn dynamic_order(board: Board, bytes: &[u8], out: &mut [u16; 498]) -> Response
     requires { ⌜ length (now bytes) ≤ 2048 ⌝ }
     ensures { λ r. ⌜ PrintsInWords r (now (out .exit)) (printedAnswer board (anyWords otherForm dynamic (now (bytes .entry)))) ⌝ }
@@ -318,6 +341,7 @@ fn serve_order(
         b'G' => trigger_order(board, bytes, out),
         b'R' => reply_order(board, bytes, out),
         b'T' => time_up_order(board, bytes, out),
+        b'B' => begin_rates_order(board, bytes),
         _ => Answered {
             response: ask(board, letter, bytes, out, words),
             board,

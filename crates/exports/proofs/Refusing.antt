@@ -9,8 +9,9 @@ use borrow.Author.Tests.{eq-eqb, ne-eqb}
 use Rattle.call_refusals.specs.CallRefusals.{lowerOf, noRoom}
 use Rattle.call_refusals.proofs.Numbers.{room-one}
 use Rattle.steps.specs.declared.Event.{Event}
+use Rattle.board.specs.declared.Board.{Board}
 use Rattle.reply_series.specs.Series.{Counts}
-use Rattle.exports.specs.Exports.{afterOne, holds, Leaves, GivesCount, CountsItems}
+use Rattle.exports.specs.Exports.{holds, Leaves, GivesCount, CountsItems}
 
 module _ (refusal : ℕ) (made lent : List ℕ) (r : ℕ) (e : r ≡ refusal) where
   pub gives-refused : (r ≡ 0 → ⊥) → Leaves refusal made lent r lent
@@ -34,10 +35,10 @@ gives-count own n out r e z m em =
     gives _ _ out r e z (set out 0 m) (first-set m out room ∙ ap (λ (k : ℕ). k ∷ drop 1 out) em)
 
 -- items handed in
-module _ (event : Event) (own : ℕ) (w items frame out : List ℕ) (r : ℕ) (e : r ≡ lowerOf own (noRoom 1 (length out))) where
-  pub items-refused : (r ≡ 0 → ⊥) → CountsItems event (lowerOf own (noRoom 1 (length out))) w items frame out r frame out
+module _ (event : Event) (own : ℕ) (β : Board) (items frame out : List ℕ) (r : ℕ) (e : r ≡ lowerOf own (noRoom 1 (length out))) where
+  pub items-refused : (r ≡ 0 → ⊥) → CountsItems event (lowerOf own (noRoom 1 (length out))) β items frame out r frame out
   items-refused h = record { many = gives-refused _ _ out r e h; bytes = gives-refused _ _ frame r e h }
 
-  pub items-counted : r ≡ 0 → (n : ℕ) (after : List ℕ) → Counts event (afterOne w) items frame n after
-      → CountsItems event (lowerOf own (noRoom 1 (length out))) w items frame out 0 after (set out 0 n)
+  pub items-counted : r ≡ 0 → (n : ℕ) (after : List ℕ) → Counts event β items frame n after
+      → CountsItems event (lowerOf own (noRoom 1 (length out))) β items frame out 0 after (set out 0 n)
   items-counted z n after c = record { many = gives-count own _ out r e z n (c .number); bytes = gives _ _ frame r e z after (c .bytes) }

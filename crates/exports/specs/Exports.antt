@@ -22,7 +22,9 @@ use Rattle.steps.specs.declared.Event.the-variants.{Reply, TimeUp}
 use Rattle.run.specs.Run.{clockedRun, triggerNumber, triggerRules, afterTrigger}
 use Rattle.run.specs.declared.Run.{Run}
 use Rattle.board.specs.State.{freshBoard}
+use Rattle.board.specs.RatePass.{boardBegun}
 use Rattle.board.specs.declared.Board.{Board}
+use Rattle.stream.specs.Stream.{ranOut}
 use Rattle.call_refusals.specs.CallRefusals.{lowerOf, noRoom, passRefusal, packetsRefusal, triggersRefusal}
 use Rattle.command_series.specs.Series.{afterCommands, acceptedOf, firstRefusal}
 use Rattle.reply_series.specs.Series.{seriesOn}
@@ -65,21 +67,31 @@ afterTwo w = afterCommands 2 (freshBoard 0 0) w
 
 -- ---- a pass
 
--- a call with this refusal, on a fresh board after the first command of the words: how many of the items count stands in the lent numbers `out`, and
--- what the items leave in the lent bytes `frame`
-pub record CountsItems (event : Event) (refusal : ℕ) (w items frame out : List ℕ) (r : ℕ) (frame′ out′ : List ℕ) : Type 0 where
-  pub many : Gives refusal (seriesOn event (afterOne w) items frame .number ∷ []) out r out′
-  pub bytes : Leaves refusal (seriesOn event (afterOne w) items frame .lent) frame r frame′
+-- a call with this refusal, on the board β: how many of the items count stands in the lent numbers `out`, and what the items leave in the lent bytes
+-- `frame`
+pub record CountsItems (event : Event) (refusal : ℕ) (β : Board) (items frame out : List ℕ) (r : ℕ) (frame′ out′ : List ℕ) : Type 0 where
+  pub many : Gives refusal (seriesOn event β items frame .number ∷ []) out r out′
+  pub bytes : Leaves refusal (seriesOn event β items frame .lent) frame r frame′
 
--- replies
+-- what refuses replies after the first command of the words
+abbrev pub refusalAfterOne : List ℕ → List ℕ → List ℕ → ℕ
+refusalAfterOne w items out = passRefusal (firstRefusal 1 (freshBoard 0 0) w) (length items) (length out)
+
+-- replies, on a fresh board after the first command
 abbrev pub CountsPass : List ℕ → List ℕ → List ℕ → List ℕ → ℕ → List ℕ → List ℕ → Type 0
-CountsPass w items frame out r frame′ out′ =
-    CountsItems Reply (passRefusal (firstRefusal 1 (freshBoard 0 0) w) (length items) (length out)) w items frame out r frame′ out′
+CountsPass w items frame out r frame′ out′ = CountsItems Reply (refusalAfterOne w items out) (afterOne w) items frame out r frame′ out′
 
 -- time-ups
 abbrev pub CountsTimeUps : List ℕ → List ℕ → List ℕ → List ℕ → ℕ → List ℕ → List ℕ → Type 0
 CountsTimeUps w crates frame out r frame′ out′ =
-    CountsItems TimeUp (lowerOf (firstRefusal 1 (freshBoard 0 0) w) (noRoom 1 (length out))) w crates frame out r frame′ out′
+    CountsItems TimeUp (lowerOf (firstRefusal 1 (freshBoard 0 0) w) (noRoom 1 (length out))) (afterOne w) crates frame out r frame′ out′
+
+-- replies in a rate pass (02, i), which begins once the pass of the first command, where it has one, has run out on silent boards
+unfoldable pub ratesAfterOne : List ℕ → Board
+ratesAfterOne w = boardBegun (ranOut (afterOne w))
+
+abbrev pub CountsRatePass : List ℕ → List ℕ → List ℕ → List ℕ → ℕ → List ℕ → List ℕ → Type 0
+CountsRatePass w items frame out r frame′ out′ = CountsItems Reply (refusalAfterOne w items out) (ratesAfterOne w) items frame out r frame′ out′
 
 -- ---- clock steps
 

@@ -7,8 +7,8 @@ ghost use lib.ListN.{length};
 ghost use Rattle.refusals.specs.Tables.{isGiven};
 ghost use Rattle.crc.specs.Crc.{crc};
 ghost use Rattle.packet_reader.specs.Reading.{packetAnswer};
-ghost use Rattle.exports.specs.Exports.{commandGiven, CountsAccepted, CountsPass, CountsTimeUps, MakesSteps, GivesTriggers};
-ghost use Rattle.exports.specs.Exports.{goodPackets, CountsPackets, StaticRound};
+ghost use Rattle.exports.specs.Exports.{commandGiven, CountsAccepted, CountsPass, CountsTimeUps, CountsRatePass, MakesSteps};
+ghost use Rattle.exports.specs.Exports.{GivesTriggers, goodPackets, CountsPackets, StaticRound};
 ghost use Rattle.exports.specs.CodeShape.{GivesPackets};
 use block_reader::BlockRead;
 use block_reader::Kind;
@@ -32,6 +32,7 @@ use refusals::Written;
 use reply_series::count_on_board;
 use reply_series::good_replies;
 use steps::Event;
+use stream::run_out;
 use words::copy_words;
 
 // The CRC of bytes.
@@ -120,6 +121,30 @@ pub extern "C" fn ftm_time_ups(
     }
     let board = done.board;
     served[0] = count_on_board(board, Event::TimeUp, crates, frame);
+    0
+}
+
+// On a fresh board: obeys the first command of the words, lets its pass run out on silent boards, begins a rate pass, then hands in the
+// items as `ftm_replies` does. How many replies were good.
+#[no_mangle]
+pub extern "C" fn ftm_rate_pass(
+    words: &[u16],
+    items: &[u8],
+    frame: &mut [u8],
+    good: &mut [u64],
+) -> u8
+    ensures { λ r.
+        ⌜ CountsRatePass (now (words .entry)) (now (items .entry)) (now (frame .entry)) (now (good .entry)) r (now (frame .exit)) (now (good .exit)) ⌝ }
+{
+    let done = obey_series(words, 1);
+    let refusal = pass_refusal(done.refusal, items.len(), good.len());
+    if refusal != 0 {
+        return refusal;
+    }
+    let board = done.board;
+    let begun = run_out(board).begin_rate_pass();
+    let in_pass = begun.board;
+    good[0] = count_on_board(in_pass, Event::Reply, items, frame);
     0
 }
 

@@ -1,7 +1,7 @@
--- 01, Slow control, and Blocks sent out: what the four crates are together. None of it is stored.
+-- 01, Slow control, and Blocks sent out; 02, i: what the four crates are together. None of it is stored.
 use Prim.Native.Nat.{ℕ, zero, suc, _/_, _%_}
 use mathlib.Core.Bool.{Bool, not, cond, _||_}
-use mathlib.Core.List.{List, [], _∷_}
+use mathlib.Core.List.{List, [], _∷_, _++_}
 use lib.Dec.{eqb, leb, ltb}
 use lib.ListN.{length, getD}
 use Rattle.refusals.specs.Tables.{Answer, given, Rule, rule, lowest, refusalMeaning}
@@ -19,12 +19,12 @@ use Rattle.four_crates.specs.declared.Failure.{Failure}
 
 -- what stands for a crate above 3, which there is none of
 abbrev pub noCrate : Crate
-noCrate = record { dna = []; calls = []; «crc_errors» = []; failed = []; sent = 0; board = 0; code = 0; tries = 0 }
+noCrate = record { rates = []; dna = []; calls = []; «crc_errors» = []; failed = []; sent = 0; board = 0; code = 0; tries = 0 }
 
 abbrev pub crateOf : List Crate → ℕ → Crate
 crateOf cs i = getD cs i noCrate
 
--- a pass is under way while a frame is outstanding on a crate: "when all are done the board is idle"
+-- a pass is under way while a frame is outstanding on a crate: "when all are done the board is idle", or runs after a rate pass (02, i)
 unfoldable pub inPass : List Crate → Bool
 inPass cs = not (isDone (crateOf cs 0)) || not (isDone (crateOf cs 1)) || not (isDone (crateOf cs 2)) || not (isDone (crateOf cs 3))
 
@@ -71,6 +71,16 @@ entriesFrom cs (suc n) k = entryAt cs k ∷ entriesFrom cs n (suc k)
 
 unfoldable pub entriesOf : List Crate → List Entry
 entriesOf cs = entriesFrom cs 40 0
+
+-- ---- the rates (02, i)
+
+-- "twelve for each board", in the same order: those of the first n crates
+unfoldable pub ratesOfFirst : ℕ → List Crate → List ℕ
+ratesOfFirst zero cs = []
+ratesOfFirst (suc n) cs = ratesOfFirst n cs ++ crateOf cs n .rates
+
+abbrev pub ratesOf : List Crate → List ℕ
+ratesOf cs = ratesOfFirst 4 cs
 
 -- ---- the failure records: "Records stand in rising k, 40 at most, numbered from 0"
 

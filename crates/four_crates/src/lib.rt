@@ -1,14 +1,17 @@
-// The four crates: a pass begun on all of them, whether one is under way, the first frames, the entries of the FTU list, and the failure records.
+// The four crates: a pass begun on all of them, whether one is under way, the first frames, the entries of the FTU list, the rates, and the failure
+// records.
 ghost use mathlib.Core.Path.{_≡_};
 ghost use Prim.Native.Nat.{_<_};
 ghost use lib.ListN.{getD};
 ghost use Rattle.crate_pass.specs.Crate.{entriesIn, silent};
 ghost use Rattle.four_crates.specs.FourCrates.{inPass, begunAll, firstMeaning, firstAnswer};
-ghost use Rattle.four_crates.specs.FourCrates.{sentMeaning, sentOn, entriesOf, failedAt, recordMeaning, recordAnswer};
+ghost use Rattle.four_crates.specs.FourCrates.{sentMeaning, sentOn, entriesOf, ratesOf, failedAt, recordMeaning, recordAnswer};
+ghost use Rattle.four_crates.specs.CodeShape.{PutCrate};
 use crate_pass::Crate;
 use crate_pass::PassKind;
 use ftu_list::Entry;
 use refusals::Refusal;
+use words::copy_words;
 
 // A board k that failed, with the number of the code of the step that did.
 pub struct Failure {
@@ -130,6 +133,35 @@ pub fn entries_of(crates: [Crate; 4]) -> [Entry; 40]
         k += 1;
     }
     entries
+}
+
+// The words of the boards with those of a crate put in their place.
+fn put_crate(c: usize, all: [u16; 480], words: [u16; 120]) -> [u16; 480]
+    requires { ⌜ c < 4 ⌝ }
+    ensures { λ r. ⌜ PutCrate c all words r ⌝ }
+{
+    let mut next = all;
+    let at = 120 * c;
+    copy_words(&words, &mut next[at..]);
+    next
+}
+
+// The rates of the boards, twelve words for each.
+pub fn rates_of(crates: [Crate; 4]) -> [u16; 480]
+    ensures { λ r. ⌜ r ≡ ratesOf crates ⌝ }
+{
+    let a = crates[0];
+    let b = crates[1];
+    let c = crates[2];
+    let d = crates[3];
+    let of_a = a.rates;
+    let of_b = b.rates;
+    let of_c = c.rates;
+    let of_d = d.rates;
+    let one = put_crate(0, [0u16; 480], of_a);
+    let two = put_crate(1, one, of_b);
+    let three = put_crate(2, two, of_c);
+    put_crate(3, three, of_d)
 }
 
 // The code that failed on board k, 0 where none did.

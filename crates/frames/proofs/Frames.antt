@@ -12,7 +12,7 @@ use Rattle.configuration.specs.declared.Settings.{Settings}
 use Rattle.frames.specs.Frames.{padded, withoutCrc, frameWith, wordsFor}
 use Rattle.frames.specs.CodeShape.{beforeCrc, fiveOf}
 use Rattle.frames.specs.declared.Code.{Code}
-use Rattle.frames.specs.declared.Code.the-variants.{Dacs, Enables, Prescaling, Ping}
+use Rattle.frames.specs.declared.Code.the-variants.{Dacs, Enables, Prescaling, Ping, Rates}
 use Rattle.numbers.proofs.Listed.{listed}
 
 module _ (address number : ℕ) where
@@ -25,6 +25,7 @@ module _ (address number : ℕ) where
   five-will s hd he Enables = subst FiveWill (listed (s .enables) 4 he) refl
   five-will s hd he Prescaling = refl
   five-will s hd he Ping = refl
+  five-will s hd he Rates = refl
 
   module _ (s : Settings) (hd : length (s .dacs) ≡ 5) (he : length (s .enables) ≡ 4) (code : Code) where
     pub frame-five : frameWith address number (fiveOf (wordsFor code s)) ≡ frameWith address number (wordsFor code s)

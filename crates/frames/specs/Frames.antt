@@ -1,4 +1,4 @@
--- 01, Slow control: "Our frames are 28 bytes, without a header".
+-- 01, Slow control, and 02, i: "Our frames are 28 bytes, without a header".
 use Prim.Native.Nat.{ℕ}
 use mathlib.Core.List.{List, [], _∷_, _++_}
 use lib.ListN.{take, replicate}
@@ -7,20 +7,23 @@ use Rattle.crc.specs.Crc.{crc}
 use Rattle.configuration.specs.Configuration.{addressOf}
 use Rattle.configuration.specs.declared.Settings.{Settings}
 use Rattle.frames.specs.declared.Code.{Code}
-use Rattle.frames.specs.declared.Code.the-variants.{Dacs, Enables, Prescaling, Ping}
+use Rattle.frames.specs.declared.Code.the-variants.{Dacs, Enables, Prescaling, Ping, Rates}
 
--- "Code 1 carries the five DACs, 2 the four enables, 3 the prescaling, 4 pings"
+-- "Code 1 carries the five DACs, 2 the four enables, 3 the prescaling, 4 pings"; 02, i: "a rate pass .. with code 5"
 abbrev pub codeOf : Code → ℕ
 codeOf Dacs = 1
 codeOf Enables = 2
 codeOf Prescaling = 3
 codeOf Ping = 4
+codeOf Rates = 5
 
+-- 02, i, of a frame that asks for rates: "we send zero data"
 abbrev pub wordsFor : Code → Settings → List ℕ
 wordsFor Dacs s = s .dacs
 wordsFor Enables s = s .enables
 wordsFor Prescaling s = s .prescaling ∷ []
 wordsFor Ping s = []
+wordsFor Rates s = []
 
 -- n numbers: those of a list, then zeros
 abbrev pub padded : ℕ → List ℕ → List ℕ

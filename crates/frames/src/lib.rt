@@ -1,4 +1,4 @@
-// Slow-control frames: 28 bytes that carry a board's settings, or ping it.
+// Slow-control frames: 28 bytes that carry a board's settings, ping it, or ask for its trigger rates.
 ghost use mathlib.Core.Path.{_≡_};
 ghost use mathlib.Core.List.{[], _∷_, _++_};
 ghost use lib.ListN.{take};
@@ -15,6 +15,7 @@ pub enum Code {
     Enables,
     Prescaling,
     Ping,
+    Rates,
 }
 
 impl Code {
@@ -27,6 +28,7 @@ impl Code {
             Code::Enables => 2,
             Code::Prescaling => 3,
             Code::Ping => 4,
+            Code::Rates => 5,
         }
     }
 }
@@ -42,6 +44,7 @@ fn words_for(code: Code, s: Settings) -> [u16; 5]
         Code::Enables => [e[0], e[1], e[2], e[3], 0],
         Code::Prescaling => [s.prescaling, 0, 0, 0, 0],
         Code::Ping => [0, 0, 0, 0, 0],
+        Code::Rates => [0, 0, 0, 0, 0],
     }
 }
 

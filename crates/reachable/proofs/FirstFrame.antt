@@ -16,7 +16,7 @@ use Rattle.refusals.proofs.Tables.{given≢refused}
 use Rattle.numbers.specs.Numbers.{idLimit}
 use Rattle.configuration.specs.Configuration.{activeWord}
 use Rattle.steps.specs.declared.Judged.{Judged}
-use Rattle.crate_pass.specs.Crate.{nextBoard, isDone, countedFrame, placed, advanced, withEntry, withRecord, moved}
+use Rattle.crate_pass.specs.Crate.{nextBoard, isDone, countedFrame, placed, advanced, noted, withRecord, moved}
 use Rattle.crate_pass.specs.declared.PassKind.{PassKind}
 use Rattle.crate_pass.specs.declared.Outcome.{Outcome}
 use Rattle.crate_pass.specs.declared.Crate.{Crate}
@@ -26,8 +26,9 @@ use Rattle.crate_pass.proofs.Serving.{answer-none, after-given}
 use Rattle.four_crates.specs.FourCrates.{noCrate}
 use Rattle.board.specs.State.{crateAt, withRun, withCrates, freshBoard}
 use Rattle.command_reader.specs.Reading.{blockOf}
-use Rattle.board.specs.Commands.{boardAnswer, afterCommand}
-use Rattle.board.specs.SlowControl.{frameAt, replyAnswer, boardReplied, fetchRules}
+use Rattle.board.specs.Commands.{boardAnswer}
+use Rattle.board.specs.SlowControl.{frameAt, boardReplied, fetchRules}
+use Rattle.board.specs.RatePass.{beginAnswer}
 use Rattle.board.specs.declared.Board.{Board}
 use Rattle.board.proofs.Serving.{answer-low, board-low, board-high}
 use Rattle.any_order.specs.Steps.{Event}
@@ -35,9 +36,9 @@ use Rattle.any_order.specs.AnyOrder.{judgedOn, wordOf, stepOf}
 use Rattle.any_order.proofs.Places.{Place, at, past, place}
 use Rattle.any_order.proofs.Sent.{sent-on, step-here}
 use Rattle.any_order.proofs.Runs.{Runs, numbered}
-use Rattle.reachable.specs.Calls.{Call, command, clockStep, trigger, handIn, afterCall, afterAll, isWriteOrPing, noWriteOrPing}
+use Rattle.reachable.specs.Calls.{Call, command, clockStep, trigger, handIn, beginRates, afterCall, afterAll, isWriteOrPing, noPassBegun}
 use Rattle.reachable.specs.FirstFrame.{Counts, NoFirstFrame}
-use Rattle.reachable.proofs.OneCall.{false≢true, Free, kept-by-calls}
+use Rattle.reachable.proofs.OneCall.{Free, kept-by-calls, not-begun}
 use Rattle.reachable.proofs.Holding.{Holds, holds-power-up}
 use Rattle.reachable.proofs.OnPasses.{next, at-set}
 use Rattle.reachable.proofs.PassStays.{command-run}
@@ -61,7 +62,7 @@ counted-least b n = go (ltb b 10) (ltb n 65535)
 
 -- so what is past stays so
 past-kept : (kind : PassKind) (w : ℕ) (k : Crate) (h : Judged) (lent : List ℕ) → Past k → Past (crateAfter kind w k h lent)
-unfolding placed advanced withEntry withRecord
+unfolding placed advanced noted withRecord
 past-kept kind w k h lent (inl d) =
     after-any kind w k h Past
     (record {
@@ -116,7 +117,7 @@ module _ (c : ℕ) (low : c < 4) where
           (at-set (β .crates) i (next β i e lent) (omega arith) (λ n k. n ≡ c → Past k)
           (λ s. past-kept (β .kind) (activeWord (β .block) i) (crateAt β i) said lent (subst (λ n. Past (crateAt β n)) (sym s) p)) c (λ s. p) refl)
 
-  past-call : (β : Board) (x : Call) → Free isWriteOrPing β x → Holds β × Past (crateAt β c)
+  past-call : (β : Board) (x : Call) → Free isWriteOrPing true β x → Holds β × Past (crateAt β c)
       → Holds (afterCall β x) × Past (crateAt (afterCall β x) c)
   unfolding afterCall withRun
   past-call β (command words) free (h, p) = (
@@ -126,6 +127,10 @@ module _ (c : ℕ) (low : c < 4) where
   past-call β (clockStep ticks) free (h, p) = (holds-kept β (clockStep ticks) h, p)
   past-call β (trigger fields out) free (h, p) = (holds-kept β (trigger fields out) h, p)
   past-call β (handIn i e lent) free (h, p) = (holds-kept β (handIn i e lent) h, past-event β i e lent h p)
+  past-call β beginRates free (h, p) = (
+    holds-kept β beginRates h,
+    subst (λ (γ : Board). Past (crateAt γ c)) (sym (not-begun β (beginAnswer β) free)) p,
+  )
 
   -- one that is counted
   module _ (β : Board) (e : Event) (lent : List ℕ) (h : Holds β) where
@@ -177,12 +182,12 @@ module _ (c : ℕ) (low : c < 4) where
 -- from power-up, through any calls, a reply or a time-up that is counted, and on through calls among which none begins a pass
 pub no-first-frame : (id firmware : ℕ) → id < idLimit → firmware < 65536 → (before : List Call) (c : ℕ) → c < 4 → (e : Event) (lent : List ℕ)
     → let now = afterAll (freshBoard id firmware) before in Counts now c e lent
-    → (xs : List Call) → noWriteOrPing (afterCall now (handIn c e lent)) xs ≡ true → NoFirstFrame (afterAll (afterCall now (handIn c e lent)) xs) c
+    → (xs : List Call) → noPassBegun (afterCall now (handIn c e lent)) xs ≡ true → NoFirstFrame (afterAll (afterCall now (handIn c e lent)) xs) c
 unfolding afterCall
 no-first-frame id firmware i f before c low e lent n xs free =
     let now = afterAll (freshBoard id firmware) before in
     let holds = holds-all (freshBoard id firmware) before (holds-power-up id firmware i f) in
     let next = afterCall now (handIn c e lent) in
-    let kept = kept-by-calls isWriteOrPing (λ (γ : Board). Holds γ × Past (crateAt γ c)) (past-call c low) next xs free
+    let kept = kept-by-calls isWriteOrPing true (λ (γ : Board). Holds γ × Past (crateAt γ c)) (past-call c low) next xs free
     (holds-kept now (handIn c e lent) holds, past-counted c low now e lent holds n) in
     past-fetch c low (afterAll next xs) (kept .1)

@@ -17,11 +17,12 @@ use Rattle.run.specs.declared.Run.{Run}
 use Rattle.board.specs.State.{withRun, statusOf}
 use Rattle.board.specs.Commands.{boardAnswer, written, pinged, afterCommand, boardAfter}
 use Rattle.board.specs.SentOut.{headerOf}
+use Rattle.board.specs.RatePass.{beginAnswer}
 use Rattle.board.specs.declared.Board.{Board}
-use Rattle.reachable.specs.Calls.{Call, command, clockStep, trigger, handIn, afterCall, afterAll}
+use Rattle.reachable.specs.Calls.{Call, command, clockStep, trigger, handIn, beginRates, afterCall, afterAll}
 use Rattle.reachable.specs.Calls.{startOrReset, accepted, noneGets, noWrite, noStartOrReset}
 use Rattle.reachable.specs.Fresh.{StaticReadsBack, NeedsWrite, NeedsNoWrite}
-use Rattle.reachable.proofs.OneCall.{false≢true, Free, kept-by-calls, replied-run}
+use Rattle.reachable.proofs.OneCall.{false≢true, Free, kept-by-calls, replied-run, begun-run}
 use Rattle.reachable.proofs.Kept.{calls-keep, block-kept}
 
 -- ---- fresh stays as it is, set or not, through calls among which no command is accepted that changes it
@@ -54,15 +55,16 @@ trigger-fresh r (given n) = go (isLast (r .running) (triggerNumber r))
     go false = refl
 trigger-fresh r (refused n p) = refl
 
-call-fresh : (b : Bool) (β : Board) (x : Call) → Free (accepted (changes b)) β x → β .run .fresh ≡ b → afterCall β x .run .fresh ≡ b
+call-fresh : (b : Bool) (β : Board) (x : Call) → Free (accepted (changes b)) false β x → β .run .fresh ≡ b → afterCall β x .run .fresh ≡ b
 unfolding afterCall withRun clockedRun
 call-fresh b β (command words) free f = command-fresh b β (blockOf words) (boardAnswer β words) free f
 call-fresh b β (clockStep ticks) free f = f
 call-fresh b β (trigger fields out) free f = trigger-fresh (β .run) (triggerAnswer (β .run) fields out) ∙ f
 call-fresh b β (handIn c event out) free f = ap (λ (r : Run). r .fresh) (replied-run β c _ out) ∙ f
+call-fresh b β beginRates free f = ap (λ (r : Run). r .fresh) (begun-run β (beginAnswer β)) ∙ f
 
-calls-fresh : (b : Bool) (β : Board) (xs : List Call) → noneGets (accepted (changes b)) β xs ≡ true → β .run .fresh ≡ b → afterAll β xs .run .fresh ≡ b
-calls-fresh b β xs e f = kept-by-calls (accepted (changes b)) (λ (γ : Board). γ .run .fresh ≡ b) (call-fresh b) β xs e f
+calls-fresh : (b : Bool) (β : Board) (xs : List Call) → noneGets (accepted (changes b)) false β xs ≡ true → β .run .fresh ≡ b → afterAll β xs .run .fresh ≡ b
+calls-fresh b β xs e f = kept-by-calls (accepted (changes b)) false (λ (γ : Board). γ .run .fresh ≡ b) (call-fresh b) β xs e f
 
 -- ---- so a start gets 10, or is accepted
 

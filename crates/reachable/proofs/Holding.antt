@@ -65,6 +65,8 @@ holds-power-up id firmware i f =
         length-block = refl;
         within = zeros-within;
         active = record { four = refl; within = λ c. rw (zeros 4 c) (omega arith) };
+        length-rates = refl;
+        rates = λ j. rw (zeros 480 j) (omega arith);
         four = refl;
         number = λ c h. rw (crate-up c h) zero-le;
         first = λ c h b. absurd (let e : 10 ≡ getD (replicate 4 crateAtPowerUp) c noCrate .board = ap (λ (k : Crate). k .board) (sym (crate-up c h)) in

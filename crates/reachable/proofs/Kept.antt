@@ -5,45 +5,32 @@ use mathlib.Core.Path.{_≡_, refl, sym, _∙_, subst}
 use mathlib.Core.Bool.{true, false}
 use mathlib.Core.List.{List}
 use lib.ListN.{take}
-use Rattle.refusals.specs.Tables.{Answer, given, refused}
+use Rattle.refusals.specs.Tables.{given}
 use Rattle.refusals.specs.declared.Written.the-variants.{Length}
 use Rattle.numbers.specs.Numbers.{idLimit}
-use Rattle.commands.specs.declared.Command.{Command}
-use Rattle.commands.specs.declared.Command.the-variants.{Read, Write, Start, Stop, Ping, CrateReset}
+use Rattle.commands.specs.declared.Command.the-variants.{Write}
 use Rattle.command_reader.specs.Reading.{blockOf}
 use Rattle.block_reader.specs.declared.Kind.the-variants.{Static}
 use Rattle.round_trips.specs.Blocks.{ReadsBack}
-use Rattle.board.specs.State.{withRun, freshBoard}
-use Rattle.board.specs.Commands.{boardAnswer, pinged, afterCommand, boardAfter}
+use Rattle.board.specs.State.{withRun, withCrates, freshBoard}
+use Rattle.board.specs.Commands.{boardAnswer, pinged, boardAfter}
+use Rattle.board.specs.RatePass.{ratesBegun}
 use Rattle.board.specs.declared.Board.{Board}
 use Rattle.board.specs.SentOut.{headerOf, SendsStatic}
-use Rattle.reachable.specs.Calls.{Call, command, clockStep, trigger, handIn, afterCall, afterAll, isWrite, noWrite}
+use Rattle.reachable.specs.Calls.{Call, afterAll, isWrite, noWrite}
 use Rattle.reachable.specs.Reachable.{Reachable}
 use Rattle.reachable.proofs.Holding.{holds-reachable, holds-power-up}
 use Rattle.reachable.proofs.States.{holds-command, holds-all}
 use Rattle.reachable.proofs.ReadBack.{static-reads}
-use Rattle.reachable.proofs.OneCall.{false≢true, Free, kept-by-calls, replied-block}
+use Rattle.reachable.proofs.OneCall.{false≢true}
+use Rattle.reachable.proofs.FieldStays.{field-stays}
 use Rattle.reachable.proofs.Accepted.{written-block}
 
-command-keeps : (β : Board) (block : List ℕ) (a : Answer Command) → isWrite a ≡ false → afterCommand β block a .block ≡ β .block
-unfolding withRun pinged
-command-keeps β block (given (Read kind)) e = refl
-command-keeps β block (given Write) e = false≢true (sym e)
-command-keeps β block (given (Start run)) e = refl
-command-keeps β block (given Stop) e = refl
-command-keeps β block (given Ping) e = refl
-command-keeps β block (given (CrateReset c)) e = refl
-command-keeps β block (refused n p) e = refl
-
-call-keeps : (β : Board) (x : Call) → Free isWrite β x → afterCall β x .block ≡ β .block
-unfolding afterCall withRun
-call-keeps β (command words) free = command-keeps β (blockOf words) (boardAnswer β words) free
-call-keeps β (clockStep ticks) free = refl
-call-keeps β (trigger fields out) free = refl
-call-keeps β (handIn c event out) free = replied-block β c _ out
-
 pub calls-keep : (β : Board) (xs : List Call) → noWrite β xs ≡ true → afterAll β xs .block ≡ β .block
-calls-keep β xs e = kept-by-calls isWrite (λ (γ : Board). γ .block ≡ β .block) (λ γ x free k. call-keeps γ x free ∙ k) β xs e refl
+unfolding withRun withCrates pinged ratesBegun
+calls-keep =
+    field-stays (λ (γ : Board). γ .block) isWrite false
+    (record { run = λ β r. refl; crates = λ β cs. refl; write = λ β block e. false≢true (sym e); ping = λ β e. refl; rate = λ β e. refl })
 
 -- whatever else happens after an accepted write, its block is the one that is stored
 pub block-kept : (β : Board) (w : List ℕ) → boardAnswer β w ≡ given Write → (xs : List Call) → noWrite (boardAfter β w) xs ≡ true

@@ -1,15 +1,21 @@
 -- The laws that the theorems rest on, and the theorems.
 pub mod OneCall
 pub mod Accepted
+pub mod Rates
 pub mod Holding
 pub mod OnRun
 pub mod OnPasses
 pub mod States
 pub mod ReadBack
 pub mod Reported
+pub mod FieldStays
 pub mod Kept
 pub mod RunNumbers
 pub mod PassStays
+pub mod PartStays
 pub mod ListStays
 pub mod Fresh
 pub mod FirstFrame
+pub mod RatesStay
+pub mod Between
+pub mod BetweenCalls

@@ -1,4 +1,4 @@
--- Writes and pings begin a pass, replies and time-ups move one crate in it, and all keep what holds.
+-- Writes, pings and the begin of a rate pass begin a pass, replies and time-ups move one crate in it, and all keep what holds.
 -- Assumes nothing.
 use Prim.Native.Nat.{ℕ, zero, suc, _<_, _≤_}
 use mathlib.Core.Path.{_≡_, refl, sym, _∙_, subst}
@@ -9,21 +9,21 @@ use lib.Dec.{ltb, eqb}
 use lib.ListN.{length, getD, set, length-set}
 use lib.Seq.{getD-set-same, getD-set-other}
 use borrow.Author.Tests.{ltb-true, ltb-false, le-ltb, eqb-true, eqb-false}
-use Rattle.refusals.specs.Tables.{Answer, given}
+use Rattle.refusals.specs.Tables.{Answer, given, refused}
 use Rattle.numbers.specs.Numbers.{idLimit}
-use Rattle.bounds.specs.Bounds.{boundOf, lowestAbove}
+use Rattle.bounds.specs.Bounds.{boundOf, lowestAbove, RatesKept}
 use Rattle.bounds.proofs.Lowest.{lowest-before}
 use Rattle.commands.specs.declared.Command.{Command}
 use Rattle.commands.specs.declared.Command.the-variants.{Write, Ping}
 use Rattle.steps.specs.declared.Judged.{Judged}
-use Rattle.steps.proofs.PingReply.{ping-below}
+use Rattle.steps.proofs.Carried.{ping-below, rates-below}
 use Rattle.run.specs.Run.{isRunning}
 use Rattle.run.specs.Invariant.{RunInvariant}
 use Rattle.run.proofs.Invariant.{sound-fresh}
-use Rattle.crate_pass.specs.Crate.{isDone, servedAnswer}
+use Rattle.crate_pass.specs.Crate.{isDone, isRatePass, servedAnswer}
 use Rattle.crate_pass.specs.Invariant.{CrateInvariant}
 use Rattle.crate_pass.specs.declared.PassKind.{PassKind}
-use Rattle.crate_pass.specs.declared.PassKind.the-variants.{Reprogramming}
+use Rattle.crate_pass.specs.declared.PassKind.the-variants.{Reprogramming, Rates}
 use Rattle.crate_pass.specs.declared.Crate.{Crate}
 use Rattle.crate_pass.proofs.Invariant.{sound-begun, sound-after}
 use Rattle.crate_pass.proofs.Answered.{crateAfter}
@@ -32,16 +32,19 @@ use Rattle.board.specs.State.{crateAt, activeWords, withCrates}
 use Rattle.command_reader.specs.Reading.{blockOf}
 use Rattle.board.specs.Commands.{boardAnswer, written, pinged, afterCommand}
 use Rattle.board.specs.SlowControl.{frameAt, boardReplied}
+use Rattle.board.specs.RatePass.{ratesBegun, beginAnswer, afterBegin, boardBegun}
 use Rattle.board.specs.declared.Board.{Board}
 use Rattle.any_order.specs.Steps.{Event, Request}
-use Rattle.any_order.specs.AnyOrder.{write, ping, wordOf, judgedOn, mostFrames}
-use Rattle.any_order.proofs.Begun.{Begun, begun-after}
+use Rattle.any_order.specs.AnyOrder.{write, ping, rates, wordOf, judgedOn, mostFrames}
+use Rattle.any_order.proofs.Begun.{Begun, idle-before, begun-after}
+use Rattle.any_order.proofs.RatesByBoard.{twelve-judged}
 use Rattle.board.proofs.Serving.{board-low, board-high}
 use Rattle.any_order.proofs.Served.{crateNext, crateStep}
 use Rattle.any_order.proofs.Runs.{Runs, step-runs}
-use Rattle.reachable.specs.Reachable.{FlagsInvariant}
+use Rattle.reachable.specs.Reachable.{FlagsInvariant, inOtherPass}
 use Rattle.reachable.proofs.Accepted.{block-length, block-within}
 use Rattle.reachable.proofs.OneCall.{false≢true}
+use Rattle.reachable.proofs.Rates.{finished-sound}
 use Rattle.reachable.proofs.Holding.{Holds, runs-number, runs-first}
 
 -- ---- a pass that has just begun
@@ -56,12 +59,15 @@ sound-all last kind words cs s (suc (suc zero)) h = sound-begun last kind (getD 
 sound-all last kind words cs s (suc (suc (suc zero))) h = sound-begun last kind (getD words 3 0) (crateOf cs 3) (s 3 (omega arith))
 sound-all last kind words cs s (suc (suc (suc (suc c)))) h = absurd (omega arith)
 
--- what a write or a ping stores holds, with what a pass that has begun has
+-- what the begin of a pass stores holds, with what a pass that has begun has
 record Stored (γ : Board) : Type 0 where
   run : RunInvariant (γ .run)
   length-block : length (γ .block) ≡ 436
   within : lowestAbove boundOf 0 (γ .block) ≡ 436
   active : FlagsInvariant (γ .active)
+  length-rates : length (γ .rates) ≡ 480
+  rates : RatesKept (γ .rates)
+  apart : (isRunning (γ .run) && inOtherPass γ) ≡ false
   crates : (c : ℕ) → c < 4 → CrateInvariant (γ .kind) (crateAt γ c)
 
 holds-begun : (β γ : Board) → Holds β → γ .identity ≡ β .identity → Begun γ → Stored γ → Holds γ
@@ -74,21 +80,26 @@ holds-begun β γ h e b s =
         length-block = s .length-block;
         within = s .within;
         active = s .active;
+        length-rates = s .length-rates;
+        rates = s .rates;
         four = b .four;
         number = λ n m. runs-number (γ .kind) (wordOf (γ .block) n) (crateAt γ n) (b .runs n m);
         first = λ n m. runs-first (γ .kind) (wordOf (γ .block) n) (crateAt γ n) (b .runs n m);
         crates = s .crates;
-        apart = rw (b .still);
+        apart = s .apart;
       };
       follows = λ n m d. b .runs n m;
     }
 
--- the state after an accepted command that begins a pass
+-- the state after an accepted begin of a pass
 begun-write : (β : Board) (w : List ℕ) → boardAnswer β w ≡ given Write → Begun (written β (blockOf w))
 begun-write β w e = subst (λ (a : Answer Command). Begun (afterCommand β (blockOf w) a)) e (begun-after β (write w) e)
 
 begun-ping : (β : Board) (w : List ℕ) → boardAnswer β w ≡ given Ping → Begun (pinged β)
 begun-ping β w e = subst (λ (a : Answer Command). Begun (afterCommand β (blockOf w) a)) e (begun-after β (ping w) e)
+
+begun-rates : (β : Board) → beginAnswer β ≡ given tt → Begun (ratesBegun β)
+begun-rates β e = subst (λ (a : Answer Unit). Begun (afterBegin β a)) e (begun-after β rates e)
 
 pub holds-write : (β : Board) (w : List ℕ) → boardAnswer β w ≡ given Write → Holds β → Holds (written β (blockOf w))
 unfolding written
@@ -100,6 +111,9 @@ holds-write β w e h =
       length-block = block-length β w e;
       within = block-within β w e;
       active = k .active;
+      length-rates = k .length-rates;
+      rates = k .rates;
+      apart = rw (idle-before β w Write (λ s. refl) e .0);
       crates = sound-all (β .kind) Reprogramming (activeWords (blockOf w)) (β .crates) (k .crates);
     })
 
@@ -125,8 +139,44 @@ holds-ping β w e h =
       length-block = k .length-block;
       within = k .within;
       active = flags-within (β .block) (k .within);
+      length-rates = k .length-rates;
+      rates = k .rates;
+      apart = rw (idle-before β w Ping (λ s. refl) e .0);
       crates = sound-all (β .kind) PassKind.Ping (activeWords (β .block)) (β .crates) (k .crates);
     })
+
+and-true : (a : Bool) → (a && true) ≡ a
+and-true true = refl
+and-true false = refl
+
+and-none : (a b : Bool) → (a && (b && false)) ≡ false
+and-none true true = refl
+and-none true false = refl
+and-none false b = refl
+
+holds-rates : (β : Board) → beginAnswer β ≡ given tt → Holds β → Holds (ratesBegun β)
+unfolding ratesBegun
+holds-rates β e h =
+    let k = h .reaches in
+    let own = finished-sound β k in
+    holds-begun β (ratesBegun β) h refl (begun-rates β e)
+    (record {
+      run = k .run;
+      length-block = k .length-block;
+      within = k .within;
+      active = k .active;
+      length-rates = own .0;
+      rates = own .1;
+      apart = and-none (isRunning (β .run)) (inPass (ratesBegun β .crates));
+      crates = sound-all (β .kind) Rates (activeWords (β .block)) (β .crates) (k .crates);
+    })
+
+pub holds-begin : (β : Board) → Holds β → Holds (boardBegun β)
+holds-begin β h = go (beginAnswer β) refl
+  where
+    go : (a : Answer Unit) → beginAnswer β ≡ a → Holds (boardBegun β)
+    go (given tt) e = rw e (holds-rates β e h)
+    go (refused n p) e = rw e h
 
 -- ---- replies and time-ups
 
@@ -137,7 +187,7 @@ all-true true true false d₃ e = false≢true (sym e)
 all-true true false d₂ d₃ e = false≢true (sym e)
 all-true false d₁ d₂ d₃ e = false≢true (sym e)
 
--- "when all are done the board is idle"
+-- no pass is under way when all are done
 pub all-done : (cs : List Crate) → inPass cs ≡ false → (c : ℕ) → c < 4 → isDone (crateOf cs c) ≡ true
 unfolding inPass
 all-done cs e c h = go c h (all-true (isDone (crateOf cs 0)) (isDone (crateOf cs 1)) (isDone (crateOf cs 2)) (isDone (crateOf cs 3)) e)
@@ -151,10 +201,12 @@ all-done cs e c h = go c h (all-true (isDone (crateOf cs 0)) (isDone (crateOf cs
     go (suc (suc (suc zero))) h t = t .3
     go (suc (suc (suc (suc c)))) h t = absurd (omega arith)
 
--- so no run is on while a frame is outstanding
-pass-apart : (running : Bool) (cs : List Crate) (c : ℕ) → c < 4 → isDone (crateOf cs c) ≡ false → (running && inPass cs) ≡ false → running ≡ false
-pass-apart true cs c h d a = false≢true (sym d ∙ all-done cs a c h)
-pass-apart false cs c h d a = refl
+-- so no run is on while a frame of a reprogramming or a ping is outstanding, and a reply leaves it so
+pass-apart : (running rate : Bool) (cs ds : List Crate) (c : ℕ) → c < 4 → isDone (crateOf cs c) ≡ false
+    → (running && (inPass cs && not rate)) ≡ false → (running && (inPass ds && not rate)) ≡ false
+pass-apart running true cs ds c h d a = and-none running (inPass ds)
+pass-apart false false cs ds c h d a = refl
+pass-apart true false cs ds c h d a = false≢true (sym d ∙ all-done cs (sym (and-true (inPass cs)) ∙ a) c h)
 
 -- what holds of the crate k, and of the others as they were, holds of the crates with k for crate c
 pub at-set : (cs : List Crate) (c : ℕ) (k : Crate) → c < length cs
@@ -182,6 +234,8 @@ holds-crate β c k h d r sound s =
         length-block = q .length-block;
         within = q .within;
         active = q .active;
+        length-rates = q .length-rates;
+        rates = q .rates;
         four = length-set (β .crates) c k ∙ q .four;
         number = λ n m.
             at-set (β .crates) c k l (λ i j. j .sent ≤ mostFrames (β .kind) (wordOf (β .block) i))
@@ -189,7 +243,7 @@ holds-crate β c k h d r sound s =
         first = λ n m.
             at-set (β .crates) c k l (λ i j. j .board < 10 → 1 ≤ j .sent) (runs-first (β .kind) (wordOf (β .block) c) k r) n (q .first n m);
         crates = λ n m. at-set (β .crates) c k l (λ i j. CrateInvariant (β .kind) j) sound n (q .crates n m);
-        apart = rw (pass-apart (isRunning (β .run)) (β .crates) c h d (q .apart));
+        apart = pass-apart (isRunning (β .run)) (isRatePass (β .kind)) (β .crates) (set (β .crates) c k) c h d (q .apart);
       };
       follows = λ n m. at-set (β .crates) c k l (λ i j. isDone j ≡ false → Runs (β .kind) (wordOf (β .block) i) j) (λ e. r) n (s .follows n m);
     }
@@ -207,11 +261,16 @@ runs-next : (β : Board) (c : ℕ) (e : Event) (lent : List ℕ) → Runs (β .k
 unfolding crateStep crateNext frameAt
 runs-next β c e lent r = step-runs (β .kind) (β .block) c (crateAt β c) (Request.handIn e, lent) r
 
--- a good reply to a ping carries a DNA that is kept
+-- a good reply to a ping carries a DNA that is kept, and one with rates twelve words that are
 event-below : (β : Board) (c : ℕ) (e : Event) → crateAt β c .code ≡ 4 → judgedOn β c e .good ≡ true → judgedOn β c e .dna < idLimit
 unfolding frameAt
-event-below β c (Event.reply bytes) p g = ping-below (β .block) c (crateAt β c .board) (crateAt β c .code) p bytes g
+event-below β c (Event.reply bytes) p g = ping-below (β .block) c (crateAt β c .board) (crateAt β c .code) bytes g p
 event-below β c Event.timeUp p g = false≢true g
+
+event-rates : (β : Board) (c : ℕ) (e : Event) → crateAt β c .code ≡ 5 → judgedOn β c e .good ≡ true → RatesKept (judgedOn β c e .rates)
+unfolding frameAt
+event-rates β c (Event.reply bytes) p g = rates-below (β .block) c (crateAt β c .board) (crateAt β c .code) bytes g p
+event-rates β c Event.timeUp p g = false≢true g
 
 pub holds-event : (β : Board) (c : ℕ) (e : Event) (lent : List ℕ) → Holds β → Holds (boardReplied β c (judgedOn β c e) lent)
 holds-event β c e lent s = go (ltb c 4) refl (isDone (crateAt β c)) refl
@@ -224,6 +283,8 @@ holds-event β c e lent s = go (ltb c 4) refl (isDone (crateAt β c)) refl
     go true p true q = rw (replied-done β c h lent (ltb-true _ _ p) q) s
     go true p false q =
         let l : c < 4 = ltb-true _ _ p in
-        let sound = sound-after (β .kind) (wordOf (β .block) c) (crateAt β c) h (event-below β c e) lent (s .reaches .crates c l) in
+        let sound =
+        sound-after (β .kind) (wordOf (β .block) c) (crateAt β c) h (event-below β c e) (twelve-judged (frameAt β c) e) (event-rates β c e) lent
+        (s .reaches .crates c l) in
         subst Holds (sym (board-low β c h lent (omega arith)))
         (holds-crate β c (next β c e lent) l q (runs-next β c e lent (s .follows c l q)) sound s)

@@ -1,7 +1,7 @@
 -- Clock steps, triggers, starts, stops and crate resets change the run alone, and keep what holds.
 -- Assumes nothing.
 use Prim.Native.Nat.{ℕ}
-use mathlib.Core.Path.{_≡_, refl, sym, subst}
+use mathlib.Core.Path.{_≡_, refl, sym, ap, subst}
 use mathlib.Core.Bool.{Bool, true, false, not, _&&_}
 use mathlib.Core.List.{List}
 use Rattle.refusals.specs.Tables.{Answer, given, refused}
@@ -12,19 +12,21 @@ use Rattle.run.specs.Run.{isRunning, started, stopped, afterCrateReset, clocked
 use Rattle.run.specs.Invariant.{RunInvariant}
 use Rattle.run.specs.declared.Run.{Run}
 use Rattle.run.proofs.Invariant.{sound-started, sound-stopped, sound-fresh, sound-clocked, sound-triggered}
+use Rattle.crate_pass.specs.Crate.{isRatePass}
 use Rattle.four_crates.specs.FourCrates.{inPass}
 use Rattle.board.specs.State.{withRun, statusOf}
 use Rattle.board.specs.Commands.{boardAnswer, afterTriggerOn}
 use Rattle.board.specs.declared.Board.{Board}
 use Rattle.acceptance.proofs.Deciding.{obeyed-now}
 use Rattle.run.proofs.Laws.{accepted-running}
+use Rattle.reachable.specs.Reachable.{inOtherPass}
 use Rattle.reachable.proofs.OneCall.{false≢true}
 use Rattle.reachable.proofs.Accepted.{accepted-events}
 use Rattle.reachable.proofs.Holding.{Holds}
 
 -- ---- a change of the run alone
 
-holds-run : (β : Board) (r : Run) → Holds β → RunInvariant r → (isRunning r && inPass (β .crates)) ≡ false → Holds (withRun β r)
+holds-run : (β : Board) (r : Run) → Holds β → RunInvariant r → (isRunning r && inOtherPass β) ≡ false → Holds (withRun β r)
 unfolding withRun
 holds-run β r h s a =
     let k = h .reaches in
@@ -36,6 +38,8 @@ holds-run β r h s a =
         length-block = k .length-block;
         within = k .within;
         active = k .active;
+        length-rates = k .length-rates;
+        rates = k .rates;
         four = k .four;
         number = k .number;
         first = k .first;
@@ -49,7 +53,7 @@ and-false : (a b : Bool) → b ≡ false → (a && b) ≡ false
 and-false true b e = e
 and-false false b e = refl
 
--- "The board is idle, running, or in a pass"
+-- while a run is on, no reprogramming and no ping is under way
 running-apart : (a b : Bool) → (a && b) ≡ false → not a ≡ false → b ≡ false
 running-apart true b e n = e
 running-apart false b e n = false≢true (sym n)
@@ -75,8 +79,8 @@ holds-trigger β f out h = go (triggerAnswer (β .run) f out) refl
     go (given n) e =
         holds-run β (afterTrigger (β .run)) h
         (subst (λ (a : Answer ℕ). RunInvariant (afterAnswer (β .run) a)) e (sound-triggered (β .run) (h .reaches .run) f out))
-        (and-false (isRunning (afterTrigger (β .run))) (inPass (β .crates))
-        (running-apart (isRunning (β .run)) (inPass (β .crates)) (h .reaches .apart) (accepted-running (β .run) f out n e)))
+        (and-false (isRunning (afterTrigger (β .run))) (inOtherPass β)
+        (running-apart (isRunning (β .run)) (inOtherPass β) (h .reaches .apart) (accepted-running (β .run) f out n e)))
     go (refused n p) e = h
 
 -- ---- starts and stops
@@ -84,7 +88,8 @@ holds-trigger β f out h = go (triggerAnswer (β .run) f out) refl
 pub holds-start : (β : Board) (w : List ℕ) (l : RunLength) → boardAnswer β w ≡ given (Start l) → Holds β → Holds (withRun β (started l))
 holds-start β w l e h =
     holds-run β (started l) h (sound-started l (accepted-events β w (Start l) e))
-    (and-false (isRunning (started l)) _ (idle-apart (isRunning (β .run)) (inPass (β .crates)) (obeyed-now w (statusOf β) (Start l) e)))
+    (and-false (isRunning (started l)) (inOtherPass β)
+    (ap (λ (p : Bool). p && not (isRatePass (β .kind))) (idle-apart (isRunning (β .run)) (inPass (β .crates)) (obeyed-now w (statusOf β) (Start l) e))))
 
 pub holds-stop : (β : Board) → Holds β → Holds (withRun β (stopped (β .run)))
 holds-stop β h = holds-run β (stopped (β .run)) h (sound-stopped (β .run)) refl

@@ -17,15 +17,16 @@ use Rattle.steps.specs.declared.Judged.{Judged}
 use Rattle.run.specs.declared.Run.{Run}
 use Rattle.four_crates.specs.FourCrates.{inPass, sentOn, failedAt, records}
 use Rattle.four_crates.proofs.Records.{records-begun}
-use Rattle.board.specs.State.{withRun, freshBoard}
+use Rattle.board.specs.State.{withRun, finishedRates, freshBoard}
 use Rattle.command_reader.specs.Reading.{blockOf}
 use Rattle.board.specs.Commands.{boardAnswer, written, pinged, carriedOut, afterCommand, boardAfter}
 use Rattle.board.specs.SlowControl.{boardReplied, sentAnswer}
+use Rattle.board.specs.RatePass.{ratesBegun, beginAnswer, afterBegin, boardBegun}
 use Rattle.board.specs.declared.Board.{Board}
 use Rattle.board.proofs.Serving.{board-high}
-use Rattle.reachable.specs.Calls.{Call, command, clockStep, trigger, handIn, afterCall, afterAll, beginsPass, isWriteOrPing, noWriteOrPing}
+use Rattle.reachable.specs.Calls.{Call, command, clockStep, trigger, handIn, beginRates, afterCall, afterAll, beginsPass, isWriteOrPing, noPassBegun}
 use Rattle.reachable.specs.Stays.{PassStays}
-use Rattle.reachable.proofs.OneCall.{false≢true, Free, kept-by-calls}
+use Rattle.reachable.proofs.OneCall.{false≢true, Free, kept-by-calls, not-begun}
 use Rattle.reachable.proofs.OnPasses.{all-done, replied-done}
 
 -- ---- with no frame outstanding, a call that begins no pass changes the run alone
@@ -54,30 +55,31 @@ replied-run : (β : Board) (c : ℕ) (h : Judged) (lent : List ℕ) → inPass (
 unfolding withRun
 replied-run β c h lent d = let e = replied-same β c h lent d in e ∙ ap (λ (γ : Board). withRun β (γ .run)) (sym e)
 
-call-run : (β : Board) (x : Call) → inPass (β .crates) ≡ false → Free isWriteOrPing β x → afterCall β x ≡ withRun β (afterCall β x .run)
+call-run : (β : Board) (x : Call) → inPass (β .crates) ≡ false → Free isWriteOrPing true β x → afterCall β x ≡ withRun β (afterCall β x .run)
 unfolding afterCall withRun
 call-run β (command words) d free = command-run β (blockOf words) (boardAnswer β words) free
 call-run β (clockStep ticks) d free = refl
 call-run β (trigger fields out) d free = refl
 call-run β (handIn c event out) d free = replied-run β c _ out d
+call-run β beginRates d free = let e = not-begun β (beginAnswer β) free in e ∙ ap (λ (γ : Board). withRun β (γ .run)) (sym e)
 
 -- the second board is the first but for the run
 abbrev RunAlone : Board → Board → Type 0
 RunAlone β γ = γ ≡ withRun β (γ .run)
 
-one-more : (β : Board) → inPass (β .crates) ≡ false → (γ : Board) (x : Call) → Free isWriteOrPing γ x → RunAlone β γ → RunAlone β (afterCall γ x)
+one-more : (β : Board) → inPass (β .crates) ≡ false → (γ : Board) (x : Call) → Free isWriteOrPing true γ x → RunAlone β γ → RunAlone β (afterCall γ x)
 unfolding withRun
 one-more β d γ x free k =
     call-run γ x (ap (λ (δ : Board). inPass (δ .crates)) k ∙ d) free ∙ ap (λ (δ : Board). withRun δ (afterCall γ x .run)) k
 
-calls-run : (β : Board) (xs : List Call) → inPass (β .crates) ≡ false → noWriteOrPing β xs ≡ true → RunAlone β (afterAll β xs)
+calls-run : (β : Board) (xs : List Call) → inPass (β .crates) ≡ false → noPassBegun β xs ≡ true → RunAlone β (afterAll β xs)
 unfolding withRun
-calls-run β xs d e = kept-by-calls isWriteOrPing (RunAlone β) (one-more β d) β xs e refl
+calls-run β xs d e = kept-by-calls isWriteOrPing true (RunAlone β) (one-more β d) β xs e refl
 
 -- ---- so what the last pass left stays
 
-stays-run : (β : Board) (r : Run) → PassStays β (withRun β r)
-unfolding withRun writingBy blockRules headerWords
+pub stays-run : (β : Board) (r : Run) → PassStays β (withRun β r)
+unfolding withRun writingBy blockRules headerWords finishedRates
 stays-run β r =
     record {
       number = λ c. refl;
@@ -85,11 +87,12 @@ stays-run β r =
       frame = λ f. refl;
       answer = λ n out. refl;
       message = λ n out after m w. wrote-front _ _ out m after (w .wrote);
+      rates = refl;
       rest = refl;
     }
 
 -- 01, Slow control: "The number stays after the pass until the next begins", and records "are cleared when a pass begins"
-pub pass-stays : (now : Board) (xs : List Call) → inPass (now .crates) ≡ false → noWriteOrPing now xs ≡ true → PassStays now (afterAll now xs)
+pub pass-stays : (now : Board) (xs : List Call) → inPass (now .crates) ≡ false → noPassBegun now xs ≡ true → PassStays now (afterAll now xs)
 pass-stays now xs d e = subst (PassStays now) (sym (calls-run now xs d e)) (stays-run now (afterAll now xs .run))
 
 -- ---- until the next begins
@@ -106,9 +109,13 @@ carried-records β block (CrateReset c) p = false≢true p
 pub records-cleared : (β : Board) (w : List ℕ) (c : Command) → boardAnswer β w ≡ given c → beginsPass c ≡ true → records (boardAfter β w .crates) ≡ []
 records-cleared β w c e p = ap (λ (a : Answer Command). records (afterCommand β (blockOf w) a .crates)) e ∙ carried-records β (blockOf w) c p
 
+pub rates-records-cleared : (β : Board) → beginAnswer β ≡ given tt → records (boardBegun β .crates) ≡ []
+unfolding ratesBegun
+rates-records-cleared β e = ap (λ (a : Answer Unit). records (afterBegin β a .crates)) e ∙ records-begun _ _ (β .crates)
+
 -- ---- before any pass: the number "is 0 before any", and there are "no failure records"
 
-module _ (id firmware : ℕ) (xs : List Call) (free : noWriteOrPing (freshBoard id firmware) xs ≡ true) where
+module _ (id firmware : ℕ) (xs : List Call) (free : noPassBegun (freshBoard id firmware) xs ≡ true) where
   since-power-up : PassStays (freshBoard id firmware) (afterAll (freshBoard id firmware) xs)
   unfolding freshBoard inPass
   since-power-up = pass-stays (freshBoard id firmware) xs refl free

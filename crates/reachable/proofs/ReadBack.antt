@@ -19,9 +19,10 @@ use Rattle.packets.specs.declared.Fields.{Fields}
 use Rattle.numbers.specs.Numbers.{number}
 use Rattle.bounds.specs.Bounds.{boundOf}
 use Rattle.bounds.proofs.Lent.{above-clear}
-use Rattle.blocks.specs.Blocks.{staticRules, WroteBlock}
+use Rattle.blocks.specs.Blocks.{staticRules, temperatureRules, dynamicBody, WroteBlock}
 use Rattle.blocks.specs.declared.Header.{Header}
 use Rattle.blocks.proofs.Laws.{block-accepts}
+use Rattle.blocks.proofs.Dynamic.{right-length, length-dynamic}
 use Rattle.ftu_list.specs.List.{listBody}
 use Rattle.block_reader.specs.Reading.{bodyOf}
 use Rattle.block_reader.specs.declared.Kind.{Kind}
@@ -31,9 +32,11 @@ use Rattle.round_trips.specs.Blocks.{asSent, ReadsBack, DynamicBack}
 use Rattle.round_trips.proofs.Blocks.{static-back, dynamic-back, list-back, failure-back, sent-whole}
 use Rattle.round_trips.proofs.Packets as packets
 use Rattle.run.specs.Run.{triggerNumber, triggerRules}
+use Rattle.board.specs.State.{finishedRates}
 use Rattle.board.specs.SentOut.{headerOf, listRules, listOf, failureRules, failureBodyOf, SendsStatic, SendsDynamic, SendsList, SendsFailure}
 use Rattle.board.specs.declared.Board.{Board}
 use Rattle.reachable.specs.Reachable.{Reachable}
+use Rattle.reachable.proofs.Rates.{finished-sound}
 
 module _ (β : Board) (h : Reachable β) where
   -- the timestamp of its header fits its words
@@ -47,15 +50,17 @@ module _ (β : Board) (h : Reachable β) where
     pub static-reads : SendsStatic β out (Length n) after → ReadsBack Static (take n after) (headerOf β) (β .block)
     static-reads w = as-held (static-back (headerOf β) out n after (β .block) w)
 
-    pub dynamic-reads : (m : List ℕ) → SendsDynamic β m out (Length n) after → DynamicBack (take n after) (headerOf β) (β .run .«on_time») m
-    dynamic-reads m w =
-        let back = dynamic-back (headerOf β) out n after (β .run .«on_time») m w in
-        record { block = as-held (back .block); on-time = back .on-time; measurements = back .measurements }
+    -- whatever temperatures are lent (02, i)
+    pub dynamic-reads : (t : List ℕ) → SendsDynamic β t out (Length n) after
+        → DynamicBack (take n after) (headerOf β) (β .run .«on_time») t (finishedRates β)
+    dynamic-reads t w =
+        let back = dynamic-back (headerOf β) out n after (β .run .«on_time») t (finishedRates β) (finished-sound β h .1) w in
+        record { block = as-held (back .block); on-time = back .on-time; temperatures = back .temperatures; rates = back .rates }
 
     -- whose on-time fits its words too
-    pub on-time-reads : (m : List ℕ) → SendsDynamic β m out (Length n) after
+    pub on-time-reads : (t : List ℕ) → SendsDynamic β t out (Length n) after
         → number 65536 (take 3 (bodyOf Dynamic (take n after))) ≡ β .run .«on_time»
-    on-time-reads m w = dynamic-reads m w .on-time ∙ mod-eq-of-lt (h .run .on-time)
+    on-time-reads t w = dynamic-reads t w .on-time ∙ mod-eq-of-lt (h .run .on-time)
 
     pub list-reads : SendsList β out (Length n) after → ReadsBack FtuList (take n after) (headerOf β) (listBody (listOf β))
     list-reads w = as-held (list-back (headerOf β) out n after (listRules β) (listOf β) w)
@@ -77,6 +82,15 @@ module _ (β : Board) (h : Reachable β) where
       let within : Clear (staticRules (β .block)) = above-clear boundOf 436 (β .block) (let e = h .within in omega arith) in
       let e : r ≡ Length 447 = block-written (staticRules (β .block)) 436 (β .block) out r after within (h .length-block) room w in
       (e, static-reads out after 447 (subst (λ (x : Written). SendsStatic β out x after) e w))
+
+  -- the dynamic block, with any four temperatures: a board gives no 8 there
+  pub dynamic-written : (t out : List ℕ) (r : Written) (after : List ℕ) → length t ≡ 4 → 498 ≤ length out → SendsDynamic β t out r after
+      → (r ≡ Length 498) × DynamicBack (take 498 after) (headerOf β) (β .run .«on_time») t (finishedRates β)
+  dynamic-written t out r after four room w =
+      let body = dynamicBody (β .run .«on_time») t (finishedRates β) in
+      let size = length-dynamic t (β .run .«on_time») (finishedRates β) four (finished-sound β h .0) in
+      let e : r ≡ Length 498 = block-written (temperatureRules t) 487 body out r after (right-length t four) size room (w .block) in
+      (e, dynamic-reads out after 498 t (subst (λ (x : Written). SendsDynamic β t out x after) e w))
 
   -- ---- packets
 

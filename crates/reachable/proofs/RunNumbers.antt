@@ -24,10 +24,11 @@ use Rattle.run.proofs.Laws.{after-last, after-another}
 use Rattle.board.specs.State.{withRun}
 use Rattle.command_reader.specs.Reading.{blockOf}
 use Rattle.board.specs.Commands.{boardAnswer, written, pinged, afterCommand, boardAfter}
+use Rattle.board.specs.RatePass.{beginAnswer}
 use Rattle.board.specs.declared.Board.{Board}
-use Rattle.reachable.specs.Calls.{Call, command, clockStep, trigger, handIn, afterCall, afterAll, isStartOrStop, noStartOrStop}
+use Rattle.reachable.specs.Calls.{Call, command, clockStep, trigger, handIn, beginRates, afterCall, afterAll, isStartOrStop, noStartOrStop}
 use Rattle.reachable.specs.Numbering.{whereGiven, numberOf, numbers, upFrom, GoesOn, Numbered}
-use Rattle.reachable.proofs.OneCall.{false≢true, Free, none-first, replied-run}
+use Rattle.reachable.proofs.OneCall.{false≢true, Free, none-first, replied-run, begun-run}
 use Rattle.run.proofs.Laws.{accepted-running}
 use Rattle.reachable.proofs.Accepted.{accepted-events}
 
@@ -101,12 +102,13 @@ going-command l m β block (given Ping) e g = g
 going-command l m β block (given (CrateReset c)) e g = kept l m (β .run) (afterCrateReset (β .run)) refl refl g
 going-command l m β block (refused n p) e g = g
 
-next-call : (l : RunLength) (m : ℕ) (β : Board) (x : Call) → Free isStartOrStop β x → Going l m (β .run) → Next l m (numberOf β x) (afterCall β x .run)
+next-call : (l : RunLength) (m : ℕ) (β : Board) (x : Call) → Free isStartOrStop false β x → Going l m (β .run) → Next l m (numberOf β x) (afterCall β x .run)
 unfolding afterCall withRun clockedRun
 next-call l m β (command words) free g = same refl (going-command l m β (blockOf words) (boardAnswer β words) free g)
 next-call l m β (clockStep ticks) free g = same refl (kept l m (β .run) (clockedRun (β .run) ticks) refl refl g)
 next-call l m β (trigger fields out) free g = next-trigger l m (β .run) fields out g
 next-call l m β (handIn c event out) free g = same refl (rw (replied-run β c _ out) g)
+next-call l m β beginRates free g = same refl (rw (begun-run β (beginAnswer β)) g)
 
 -- ---- and many
 
@@ -117,7 +119,7 @@ record Counts (l : RunLength) (m : ℕ) (β : Board) (xs : List Call) : Type 0 w
 counts : (l : RunLength) (m : ℕ) (β : Board) (xs : List Call) → noStartOrStop β xs ≡ true → Going l m (β .run) → Counts l m β xs
 counts l m β [] e g = record { rising = refl; ending = subst (λ (k : ℕ). Going l k (β .run)) (omega arith) g }
 counts l m β (x ∷ xs) e g =
-    let first = none-first isStartOrStop β x xs e in
+    let first = none-first isStartOrStop false β x xs e in
     go (next-call l m β x (first .0) g) (λ k. counts l k (afterCall β x) xs (first .1))
   where
     go : Next l m (numberOf β x) (afterCall β x .run) → ((k : ℕ) → Going l k (afterCall β x .run) → Counts l k (afterCall β x) xs) → Counts l m β (x ∷ xs)

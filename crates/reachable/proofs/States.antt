@@ -10,11 +10,11 @@ use Rattle.commands.specs.declared.Command.the-variants.{Read, Write, Start, St
 use Rattle.board.specs.State.{freshBoard}
 use Rattle.board.specs.Commands.{boardAnswer, boardAfter}
 use Rattle.board.specs.declared.Board.{Board}
-use Rattle.reachable.specs.Calls.{Call, command, clockStep, trigger, handIn, afterCall, afterAll}
+use Rattle.reachable.specs.Calls.{Call, command, clockStep, trigger, handIn, beginRates, afterCall, afterAll}
 use Rattle.reachable.specs.Reachable.{Reachable}
 use Rattle.reachable.proofs.Holding.{Holds, holds-reachable, holds-power-up}
 use Rattle.reachable.proofs.OnRun.{holds-clock, holds-trigger, holds-start, holds-stop, holds-reset}
-use Rattle.reachable.proofs.OnPasses.{holds-write, holds-ping, holds-event}
+use Rattle.reachable.proofs.OnPasses.{holds-write, holds-ping, holds-begin, holds-event}
 
 pub holds-command : (β : Board) (w : List ℕ) → Holds β → Holds (boardAfter β w)
 holds-command β w h = go (boardAnswer β w) refl
@@ -36,6 +36,7 @@ holds-kept β (command words) h = holds-command β words h
 holds-kept β (clockStep ticks) h = holds-clock β ticks h
 holds-kept β (trigger fields out) h = holds-trigger β fields out h
 holds-kept β (handIn c event out) h = holds-event β c event out h
+holds-kept β beginRates h = holds-begin β h
 
 pub holds-all : (β : Board) (xs : List Call) → Holds β → Holds (afterAll β xs)
 holds-all β [] h = h

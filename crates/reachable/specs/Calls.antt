@@ -9,16 +9,19 @@ use Rattle.commands.specs.declared.Command.{Command}
 use Rattle.commands.specs.declared.Command.the-variants.{Read, Write, Start, Stop, Ping, CrateReset}
 use Rattle.board.specs.Commands.{boardAnswer, boardAfter, afterTriggerOn, afterClockStep}
 use Rattle.board.specs.SlowControl.{boardReplied}
+use Rattle.board.specs.RatePass.{beginAnswer, boardBegun}
 use Rattle.board.specs.declared.Board.{Board}
 use Rattle.any_order.specs.Steps.{Event}
 use Rattle.any_order.specs.AnyOrder.{judgedOn}
 
--- the calls that take a state to the next, with what the caller gives and lends (`handIn`: a reply or a time-up); the others change no state
+-- the calls that take a state to the next, with what the caller gives and lends (`handIn`: a reply or a time-up; `beginRates`: the begin of a rate pass);
+-- the others change no state
 pub data Call : Type 0 where
   command : List ℕ → Call
   clockStep : ℕ → Call
   trigger : Fields → List ℕ → Call
   handIn : ℕ → Event → List ℕ → Call
+  beginRates : Call
 
 -- the next state, as the calls promise it
 unfoldable pub afterCall : Board → Call → Board
@@ -26,6 +29,7 @@ afterCall β (command words) = boardAfter β words
 afterCall β (clockStep ticks) = afterClockStep β ticks
 afterCall β (trigger fields out) = afterTriggerOn β fields out
 afterCall β (handIn c event out) = boardReplied β c (judgedOn β c event) out
+afterCall β beginRates = boardBegun β
 
 abbrev pub afterAll : Board → List Call → Board
 afterAll β [] = β
@@ -58,7 +62,7 @@ startOrReset Stop = false
 startOrReset Ping = false
 startOrReset (CrateReset c) = true
 
--- the commands that begin a pass
+-- the commands that begin a pass; a rate pass is begun by no command
 abbrev pub beginsPass : Command → Bool
 beginsPass c = commands.isWrite c || ping c
 
@@ -82,25 +86,39 @@ isStartOrStop a = accepted startOrStop a
 abbrev pub isStartOrReset : Answer Command → Bool
 isStartOrReset a = accepted startOrReset a
 
--- whether no call among these is a command that gets such an answer
-abbrev pub noneGets : (Answer Command → Bool) → Board → List Call → Bool
-noneGets such β [] = true
-noneGets such β (command words ∷ xs) = not (such (boardAnswer β words)) && noneGets such (afterCall β (command words)) xs
-noneGets such β (clockStep ticks ∷ xs) = noneGets such (afterCall β (clockStep ticks)) xs
-noneGets such β (trigger fields out ∷ xs) = noneGets such (afterCall β (trigger fields out)) xs
-noneGets such β (handIn c event out ∷ xs) = noneGets such (afterCall β (handIn c event out)) xs
+-- no command at all
+abbrev pub none : Answer Command → Bool
+none a = false
+
+-- whether a rate pass begins
+abbrev pub begins : Answer Unit → Bool
+begins (given t) = true
+begins (refused n p) = false
+
+-- whether no call among these is a command that gets such an answer, nor, where `rates` says so, begins a rate pass
+abbrev pub noneGets : (Answer Command → Bool) → Bool → Board → List Call → Bool
+noneGets such rates β [] = true
+noneGets such rates β (command words ∷ xs) = not (such (boardAnswer β words)) && noneGets such rates (afterCall β (command words)) xs
+noneGets such rates β (clockStep ticks ∷ xs) = noneGets such rates (afterCall β (clockStep ticks)) xs
+noneGets such rates β (trigger fields out ∷ xs) = noneGets such rates (afterCall β (trigger fields out)) xs
+noneGets such rates β (handIn c event out ∷ xs) = noneGets such rates (afterCall β (handIn c event out)) xs
+noneGets such rates β (beginRates ∷ xs) = not (rates && begins (beginAnswer β)) && noneGets such rates (afterCall β beginRates) xs
 
 abbrev pub noWrite : Board → List Call → Bool
-noWrite β xs = noneGets isWrite β xs
+noWrite β xs = noneGets isWrite false β xs
 
 abbrev pub noPing : Board → List Call → Bool
-noPing β xs = noneGets isPing β xs
+noPing β xs = noneGets isPing false β xs
 
-abbrev pub noWriteOrPing : Board → List Call → Bool
-noWriteOrPing β xs = noneGets isWriteOrPing β xs
+-- no write, no ping and no rate pass
+abbrev pub noPassBegun : Board → List Call → Bool
+noPassBegun β xs = noneGets isWriteOrPing true β xs
+
+abbrev pub noRatesBegun : Board → List Call → Bool
+noRatesBegun β xs = noneGets none true β xs
 
 abbrev pub noStartOrStop : Board → List Call → Bool
-noStartOrStop β xs = noneGets isStartOrStop β xs
+noStartOrStop β xs = noneGets isStartOrStop false β xs
 
 abbrev pub noStartOrReset : Board → List Call → Bool
-noStartOrReset β xs = noneGets isStartOrReset β xs
+noStartOrReset β xs = noneGets isStartOrReset false β xs

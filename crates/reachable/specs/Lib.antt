@@ -3,5 +3,7 @@ pub mod Calls
 pub mod Reachable
 pub mod Numbering
 pub mod Stays
+pub mod Between
+pub mod BetweenCalls
 pub mod Fresh
 pub mod FirstFrame

@@ -1,5 +1,5 @@
 -- 01, Trigger packets: "The first trigger of a run is 1", and the numbers of those that follow.
-use Prim.Native.Nat.{ℕ, zero, suc, _+_, _≤_}
+use Prim.Native.Nat.{ℕ, zero, suc, _≤_}
 use mathlib.Core.Path.{_≡_}
 use mathlib.Core.Bool.{true}
 use mathlib.Core.List.{List, [], _∷_, _++_}
@@ -10,7 +10,7 @@ use Rattle.commands.specs.declared.RunLength.{RunLength}
 use Rattle.commands.specs.declared.RunLength.the-variants.{Endless, Counted}
 use Rattle.run.specs.Run.{isRunning, triggerNumber, triggerAnswer}
 use Rattle.board.specs.declared.Board.{Board}
-use Rattle.reachable.specs.Calls.{Call, command, clockStep, trigger, handIn, afterCall, afterAll}
+use Rattle.reachable.specs.Calls.{Call, command, clockStep, trigger, handIn, beginRates, afterCall, afterAll}
 
 -- the number of the packet that a call gives, where it is a trigger that is accepted
 abbrev pub whereGiven : Answer ℕ → ℕ → List ℕ
@@ -22,6 +22,7 @@ numberOf β (command words) = []
 numberOf β (clockStep ticks) = []
 numberOf β (trigger fields out) = whereGiven (triggerAnswer (β .run) fields out) (triggerNumber (β .run))
 numberOf β (handIn c event out) = []
+numberOf β beginRates = []
 
 -- the numbers of the triggers among calls, in their order
 abbrev pub numbers : Board → List Call → List ℕ

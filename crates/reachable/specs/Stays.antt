@@ -1,20 +1,20 @@
--- What stays from one pass to the next, and from one ping to the next, as the calls give it.
+-- What stays from one pass to the next, from one ping to the next, and from one rate pass to the next, as the calls give it.
 use Prim.Native.Nat.{ℕ}
 use mathlib.Core.Path.{_≡_}
-use mathlib.Core.Bool.{false}
+use mathlib.Core.Bool.{true, false, _&&_}
 use mathlib.Core.List.{List, _++_}
 use mathlib.Core.Logic.{_⊎_}
 use lib.ListN.{take, replicate}
 use Rattle.refusals.specs.Tables.{Answer}
 use Rattle.refusals.specs.Writing.{writingBy}
 use Rattle.refusals.specs.declared.Written.the-variants.{Length}
-use Rattle.blocks.specs.Blocks.{headerWords, blockRules}
-use Rattle.crate_pass.specs.declared.PassKind.the-variants.{Reprogramming}
+use Rattle.blocks.specs.Blocks.{headerWords, blockRules, dynamicBody}
+use Rattle.crate_pass.specs.Crate.{clearsList, isRatePass}
 use Rattle.four_crates.specs.FourCrates.{inPass, records}
 use Rattle.four_crates.specs.declared.Failure.{Failure}
-use Rattle.board.specs.State.{withRun}
+use Rattle.board.specs.State.{withRun, finishedRates}
 use Rattle.board.specs.SlowControl.{sentAnswer}
-use Rattle.board.specs.SentOut.{headerOf, failureRules, failedFrame, failureBodyOf, SendsList, SendsFailure}
+use Rattle.board.specs.SentOut.{headerOf, failureRules, failedFrame, failureBodyOf, SendsDynamic, SendsList, SendsFailure}
 use Rattle.board.specs.declared.Board.{Board}
 
 -- the words that a call wrote are the board's header, and then the body
@@ -40,7 +40,23 @@ messageAnswer β n out =
 
 -- no ping is under way: the last pass begun is no ping, or no frame is outstanding
 abbrev pub NoPingUnderWay : Board → Type 0
-NoPingUnderWay β = (β .kind ≡ Reprogramming) ⊎ (inPass (β .crates) ≡ false)
+NoPingUnderWay β = (clearsList (β .kind) ≡ false) ⊎ (inPass (β .crates) ≡ false)
+
+-- 02, i: `dynamic_block` gives these rates wherever it is accepted, with whatever temperatures
+abbrev pub GivesRates : Board → List ℕ → Type 0
+GivesRates β rates =
+    (t out after : List ℕ) (n : ℕ) → SendsDynamic β t out (Length n) after → IsBlock β (dynamicBody (β .run .«on_time») t rates) (take n after)
+
+-- "zeros before the first": twelve words for each of forty boards
+abbrev pub ratesAtPowerUp : List ℕ
+ratesAtPowerUp = replicate 480 0
+
+-- a rate pass is under way, and none is
+abbrev pub RatesUnderWay : Board → Type 0
+RatesUnderWay β = (isRatePass (β .kind) && inPass (β .crates)) ≡ true
+
+abbrev pub NoRatesUnderWay : Board → Type 0
+NoRatesUnderWay β = (isRatePass (β .kind) ≡ false) ⊎ (inPass (β .crates) ≡ false)
 
 -- what the last pass left in the state `now` is there in the state `later`
 pub record PassStays (now later : Board) : Type 0 where
@@ -52,5 +68,7 @@ pub record PassStays (now later : Board) : Type 0 where
   -- so `failure_message` answers the same for every ordinal, and gives the same body
   pub answer : (n : ℕ) (out : List ℕ) → messageAnswer later n out ≡ messageAnswer now n out
   pub message : (n : ℕ) → GivesMessage later n (failureBodyOf now n)
+  -- 02, i: the finished rates, which `dynamic_block` gives
+  pub rates : finishedRates later ≡ finishedRates now
   -- nothing but the run has changed
   pub rest : later ≡ withRun now (later .run)

@@ -1,19 +1,19 @@
--- A reply is good exactly if each of 01's conditions holds, said as plain facts; and its bytes 3 and 26 are free.
+-- A reply is good exactly if each of 01's conditions holds, said as plain facts; its bytes 3 and 26 are free, and the overflow byte of one with rates.
 -- Assumes nothing.
-use Prim.Native.Nat.{ℕ, zero, suc, _+_, _<_, _≤_}
+use Prim.Native.Nat.{ℕ, zero, suc, _+_, _*_, _<_, _≤_}
 use mathlib.Core.Path.{_≡_, refl, sym, _∙_}
 use mathlib.Core.Bool.{Bool, true, false, _&&_}
 use mathlib.Core.List.{List, [], _∷_}
 use mathlib.Core.Logic.{⊎-elim}
 use native.Mathlib.Omega.{arith}
 use native.Mathlib.Nat.{eq-or-lt-of-le}
-use borrow.Author.Tests.{eqb-true, eqb-false, eq-eqb, ltb-true}
+use borrow.Author.Tests.{eqb-true, eqb-false, eq-eqb, ltb-true, lt-ltb}
 use lib.Dec.{T, eqb, ltb, ltb→lt}
 use lib.ListN.{length, getD, take, getD-replicate}
 use Rattle.numbers.specs.Numbers.{idLimit}
 use Rattle.crc.specs.Crc.{crc}
-use Rattle.replies.specs.Replies.{sameFrom, zeros, dnaIn, pingData, dataRight, conditions, allOf, goodReply}
-use Rattle.replies.proofs.Laws.{by-data, ping-zeros, others}
+use Rattle.replies.specs.Replies.{sameFrom, zeros, dnaIn, pingData, countIn, countLimit, countsBelow, dataRight, conditions, allOf, goodReply}
+use Rattle.replies.proofs.Laws.{by-data, ping-zeros, rates-data, others}
 
 -- ---- of truth values
 
@@ -55,11 +55,29 @@ agree-same zero i a b f = refl
 agree-same (suc n) i a b f =
     rw (eq-eqb _ _ (f i (omega arith) (omega arith))) (agree-same n (suc i) a b (λ k l h. f k (omega arith) (omega arith)))
 
+-- what the test of n counts from the ith on says of each
+
+each-below : (n i : ℕ) (r : List ℕ) → countsBelow n i r ≡ true → (k : ℕ) → i ≤ k → k < i + n → countIn r k < countLimit
+each-below zero i r e k l h = absurd (let z : ⊥ = omega arith in z)
+each-below (suc n) i r e k l h =
+    let t = ltb (countIn r i) countLimit in
+    ⊎-elim
+    (λ q. rw (← q) (ltb-true _ _ (fst t _ e)))
+    (λ m. each-below n (suc i) r (snd t _ e) k m (omega arith))
+    (eq-or-lt-of-le l)
+
+below-each : (n i : ℕ) (r : List ℕ) → ((k : ℕ) → i ≤ k → k < i + n → countIn r k < countLimit) → countsBelow n i r ≡ true
+below-each zero i r f = refl
+below-each (suc n) i r f = rw (lt-ltb _ _ (f i (omega arith) (omega arith))) (below-each n (suc i) r (λ k l h. f k (omega arith) (omega arith)))
+
 -- ---- the conditions
 
--- the frame sent is a ping
+-- the frame sent is a ping, and it asks for rates
 abbrev pub IsPing : List ℕ → Type 0
 IsPing sent = getD sent 4 0 ≡ 4
+
+abbrev pub AsksRates : List ℕ → Type 0
+AsksRates sent = getD sent 4 0 ≡ 5
 
 pub record Good (sent r : List ℕ) : Type 0 where
   pub bytes : length r ≡ 28
@@ -68,9 +86,10 @@ pub record Good (sent r : List ℕ) : Type 0 where
   pub sender : getD r 2 0 ≡ getD sent 1 0
   pub code : getD r 4 0 ≡ getD sent 4 0
   pub right-crc : crc (take 27 r) ≡ getD r 27 0
-  pub equal : (IsPing sent → ⊥) → Agree 5 26 sent r
+  pub equal : (IsPing sent → ⊥) → (AsksRates sent → ⊥) → Agree 5 26 sent r
   pub below : IsPing sent → dnaIn r < idLimit
   pub zeros-after : IsPing sent → (k : ℕ) → 13 ≤ k → k < 26 → getD r k 0 ≡ 0
+  pub counts : AsksRates sent → (p : ℕ) → p < 5 → countIn r p < countLimit
 
 module _ (sent r : List ℕ) where
   ping-data : IsPing sent → dataRight sent r ≡ pingData r
@@ -88,9 +107,10 @@ module _ (sent r : List ℕ) where
         sender = eqb-true _ _ (at 3);
         code = eqb-true _ _ (at 4);
         right-crc = eqb-true _ _ (at 5);
-        equal = λ n. same-agree 21 5 sent r (others sent r n ∙ at 6);
+        equal = λ n m. same-agree 21 5 sent r (others sent r n m ∙ at 6);
         below = λ p. ltb-true _ _ (fst (ltb (dnaIn r) idLimit) _ (of-ping p));
         zeros-after = λ p k l h. same-agree 13 13 zeros r (snd (ltb (dnaIn r) idLimit) _ (of-ping p)) k l h ∙ getD-replicate 28 k 0 0 (omega arith);
+        counts = λ p k h. each-below 5 0 r (rates-data sent r p ∙ at 6) k (omega arith) h;
       }
 
   pub good-if : Good sent r → goodReply sent r ≡ true
@@ -101,30 +121,38 @@ module _ (sent r : List ℕ) where
       go true e =
           let p = eqb-true _ _ e in
           sym (agree-same 13 13 zeros r (λ k l h. g .zeros-after p k l h ∙ sym (getD-replicate 28 k 0 0 (omega arith)))) ∙ ping-zeros sent r p (g .below p)
-      go false e = let n = eqb-false _ _ e in sym (agree-same 21 5 sent r (g .equal n)) ∙ others sent r n
+      go false e = other (eqb-false _ _ e) (eqb (getD sent 4 0) 5) refl
+        where
+          other : (IsPing sent → ⊥) → (t : Bool) → eqb (getD sent 4 0) 5 ≡ t → true ≡ dataRight sent r
+          other n true f = let p = eqb-true _ _ f in sym (below-each 5 0 r (λ k l h. g .counts p k h)) ∙ rates-data sent r p
+          other n false f = let m = eqb-false _ _ f in sym (agree-same 21 5 sent r (g .equal n m)) ∙ others sent r n m
 
--- ---- bytes 3 and 26
+-- ---- bytes 3 and 26, and the overflow byte of a reply with rates
 
--- r and s differ at most in the bytes 3 and 26 and in the CRC, which is right for each
-pub record Alike (r s : List ℕ) : Type 0 where
+-- r and s differ at most in the bytes 3 and 26, in the overflow byte where the frame sent asks for rates, and in the CRC, which is right for each
+pub record Alike (sent r s : List ℕ) : Type 0 where
   pub lengths : length r ≡ length s
-  pub elsewhere : (k : ℕ) → (k ≡ 3 → ⊥) → (k ≡ 26 → ⊥) → (k ≡ 27 → ⊥) → getD r k 0 ≡ getD s k 0
+  pub elsewhere : (k : ℕ) → (k ≡ 3 → ⊥) → (AsksRates sent → k ≡ 25 → ⊥) → (k ≡ 26 → ⊥) → (k ≡ 27 → ⊥) → getD r k 0 ≡ getD s k 0
   pub crc-r : crc (take 27 r) ≡ getD r 27 0
   pub crc-s : crc (take 27 s) ≡ getD s 27 0
 
-turned : (r s : List ℕ) → Alike r s → Alike s r
-turned r s a = record {
+turned : (sent r s : List ℕ) → Alike sent r s → Alike sent s r
+turned sent r s a = record {
   lengths = sym (a .lengths);
-  elsewhere = λ k x y z. sym (a .elsewhere k x y z);
+  elsewhere = λ k x o y z. sym (a .elsewhere k x o y z);
   crc-r = a .crc-s;
   crc-s = a .crc-r;
 }
 
-handed : (sent r s : List ℕ) → Alike r s → goodReply sent r ≡ true → goodReply sent s ≡ true
+handed : (sent r s : List ℕ) → Alike sent r s → goodReply sent r ≡ true → goodReply sent s ≡ true
 handed sent r s a e =
     let g = good-only-if sent r e in
-    let at : (k : ℕ) → k < 26 → (k ≡ 3 → ⊥) → getD s k 0 ≡ getD r k 0 = λ k h n. sym (a .elsewhere k n (omega arith) (omega arith)) in
+    let any : (k : ℕ) → k < 26 → (k ≡ 3 → ⊥) → (AsksRates sent → k ≡ 25 → ⊥) → getD s k 0 ≡ getD r k 0 =
+    λ k h n o. sym (a .elsewhere k n o (omega arith) (omega arith)) in
+    let at : (k : ℕ) → k < 25 → (k ≡ 3 → ⊥) → getD s k 0 ≡ getD r k 0 = λ k h n. any k (omega arith) n (λ q. omega arith) in
     let dna : (k : ℕ) → T (ltb k 8) → getD s (5 + k) 0 ≡ getD r (5 + k) 0 = λ k t. let h = ltb→lt k 8 t in at (5 + k) (omega arith) (omega arith) in
+    let count : (p j : ℕ) → p < 5 → T (ltb j 4) → getD s (5 + j + 4 * p) 0 ≡ getD r (5 + j + 4 * p) 0 =
+    λ p j h t. let i = ltb→lt j 4 t in at (5 + j + 4 * p) (omega arith) (omega arith) in
     good-if sent s (record {
       bytes = sym (a .lengths) ∙ g .bytes;
       first = at 0 (omega arith) (omega arith) ∙ g .first;
@@ -132,10 +160,11 @@ handed sent r s a e =
       sender = at 2 (omega arith) (omega arith) ∙ g .sender;
       code = at 4 (omega arith) (omega arith) ∙ g .code;
       right-crc = a .crc-s;
-      equal = λ n k l h. at k (omega arith) (omega arith) ∙ g .equal n k l h;
+      equal = λ n m k l h. any k (omega arith) (omega arith) (λ q. absurd (m q)) ∙ g .equal n m k l h;
       below = λ p. rw (dna 0 tt, dna 1 tt, dna 2 tt, dna 3 tt, dna 4 tt, dna 5 tt, dna 6 tt, dna 7 tt) (g .below p);
-      zeros-after = λ p k l h. at k (omega arith) (omega arith) ∙ g .zeros-after p k l h;
+      zeros-after = λ p k l h. any k (omega arith) (omega arith) (λ q. absurd (let z : ⊥ = omega arith in z)) ∙ g .zeros-after p k l h;
+      counts = λ q p h. rw (count p 0 h tt, count p 1 h tt, count p 2 h tt, count p 3 h tt) (g .counts q p h);
     })
 
-pub free-bytes : (sent r s : List ℕ) → Alike r s → goodReply sent r ≡ goodReply sent s
-free-bytes sent r s a = alike _ _ (handed sent r s a) (handed sent s r (turned r s a))
+pub free-bytes : (sent r s : List ℕ) → Alike sent r s → goodReply sent r ≡ goodReply sent s
+free-bytes sent r s a = alike _ _ (handed sent r s a) (handed sent s r (turned sent r s a))

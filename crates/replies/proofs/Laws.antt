@@ -9,7 +9,7 @@ use lib.ListN.{length, getD, take}
 use Rattle.numbers.specs.Numbers.{idLimit}
 use Rattle.crc.specs.Crc.{crc}
 use Rattle.replies.proofs.Same.{and-true, and-false}
-use Rattle.replies.specs.Replies.{sameFrom, zeros, dnaIn, dataRight, conditions, allOf, goodReply}
+use Rattle.replies.specs.Replies.{sameFrom, zeros, dnaIn, rateData, dataRight, conditions, allOf, goodReply}
 
 -- ---- one condition that fails is enough
 
@@ -71,6 +71,10 @@ module _ (sent r : List ℕ) where
   unfolding dataRight
   ping-zeros p h = simp (eq-eqb _ _ p, lt-ltb _ _ h)
 
-  pub others : (getD sent 4 0 ≡ 4 → ⊥) → sameFrom 21 5 sent r ≡ dataRight sent r
+  pub rates-data : getD sent 4 0 ≡ 5 → rateData r ≡ dataRight sent r
   unfolding dataRight
-  others n = simp (ne-eqb _ _ n)
+  rates-data p = rw p
+
+  pub others : (getD sent 4 0 ≡ 4 → ⊥) → (getD sent 4 0 ≡ 5 → ⊥) → sameFrom 21 5 sent r ≡ dataRight sent r
+  unfolding dataRight
+  others n m = simp (ne-eqb _ _ n, ne-eqb _ _ m)

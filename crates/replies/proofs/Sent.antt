@@ -7,7 +7,7 @@ use mathlib.Core.List.{List}
 use native.Mathlib.Omega.{arith}
 use lib.Dec.{eqb}
 use lib.ListN.{getD}
-use Rattle.replies.specs.Replies.{sameFrom, pingData, dataRight, conditions, goodReply}
+use Rattle.replies.specs.Replies.{sameFrom, pingData, rateData, dataRight, conditions, goodReply}
 
 module _ (a b r : List ℕ) (alike : (k : ℕ) → k < 27 → getD a k 0 ≡ getD b k 0) where
   same-sent : (n i : ℕ) → i + n ≤ 27 → sameFrom n i a r ≡ sameFrom n i b r
@@ -16,7 +16,8 @@ module _ (a b r : List ℕ) (alike : (k : ℕ) → k < 27 → getD a k 0 ≡ get
 
   data-sent : dataRight a r ≡ dataRight b r
   unfolding dataRight
-  data-sent = ap₂ (λ (x : ℕ) (t : Bool). cond (eqb x 4) (pingData r) t) (alike 4 (omega arith)) (same-sent 21 5 (omega arith))
+  data-sent =
+      ap₂ (λ (x : ℕ) (t : Bool). cond (eqb x 4) (pingData r) (cond (eqb x 5) (rateData r) t)) (alike 4 (omega arith)) (same-sent 21 5 (omega arith))
 
   pub good-sent : goodReply a r ≡ goodReply b r
   unfolding goodReply conditions

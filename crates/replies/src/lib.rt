@@ -1,12 +1,17 @@
-// Replies to slow-control frames: when one is good, and what a good ping reply carries.
+// Replies to slow-control frames: when one is good, and what a good reply to a ping and one with rates carry.
 ghost use mathlib.Core.Path.{_≡_};
-ghost use Prim.Native.Nat.{_-_};
+ghost use Prim.Native.Nat.{_-_, _<_};
 ghost use lib.ListN.{length, getD};
-ghost use Rattle.replies.specs.Replies.{sameFrom, dnaIn, dataRight, goodReply, carriedIn};
+ghost use Rattle.replies.specs.Replies.{sameFrom, dnaIn, countIn, rateData, dataRight, goodReply, carriedIn, ratesIn};
 use crc::crc8;
 use numbers::ID_LIMIT;
+use numbers::number32;
 use numbers::number64;
 use numbers::word;
+use numbers::words32;
+
+// 2^30: a trigger count is below it.
+const COUNT_LIMIT: u32 = 1073741824;
 
 // What a ping reply carries.
 pub struct PingReply {
@@ -50,6 +55,32 @@ fn dna_in(reply: &[u8]) -> u64
     )
 }
 
+// The count of a patch, or the total after those of the four patches; a byte that is not there counts as 0.
+fn count_in(reply: &[u8], patch: usize) -> u32
+    requires { ⌜ patch < 5 ⌝ }
+    ensures { λ r. ⌜ r ≡ countIn (now (reply .entry)) patch ⌝ }
+{
+    let at = 4 * patch;
+    number32(
+        word(byte_at(reply, 5 + at), byte_at(reply, 6 + at)),
+        word(byte_at(reply, 7 + at), byte_at(reply, 8 + at)),
+    )
+}
+
+// Whether each of the five counts is below 2^30.
+fn counts_below(reply: &[u8]) -> bool
+    ensures { λ r. ⌜ r ≡ rateData (now (reply .entry)) ⌝ }
+{
+    let mut patch = 0;
+    while patch < 5 {
+        if COUNT_LIMIT <= count_in(reply, patch) {
+            return false;
+        }
+        patch += 1;
+    }
+    true
+}
+
 // Whether the reply's data are right for the frame sent.
 fn data_right(sent: [u8; 28], reply: &[u8]) -> bool
     requires { ⌜ length (now reply) ≡ 28 ⌝ }
@@ -60,6 +91,9 @@ fn data_right(sent: [u8; 28], reply: &[u8]) -> bool
             return false;
         }
         return same_from(13, [0u8; 28], reply);
+    }
+    if sent[4] == 5 {
+        return counts_below(reply);
     }
     same_from(5, sent, reply)
 }
@@ -116,4 +150,29 @@ pub fn carried(reply: &[u8]) -> PingReply
         dna: dna_in_any(reply),
         crc_errors: byte_at(reply, 26),
     }
+}
+
+// The twelve words that a board's rates have in a dynamic block; a byte that is not there counts as 0.
+pub fn rates_in(reply: &[u8]) -> [u16; 12]
+    ensures { λ r. ⌜ r ≡ ratesIn (now (reply .entry)) ⌝ }
+{
+    let a = words32(count_in(reply, 0));
+    let b = words32(count_in(reply, 1));
+    let c = words32(count_in(reply, 2));
+    let d = words32(count_in(reply, 3));
+    let total = words32(count_in(reply, 4));
+    [
+        a[0],
+        a[1],
+        b[0],
+        b[1],
+        c[0],
+        c[1],
+        d[0],
+        d[1],
+        total[0],
+        total[1],
+        byte_at(reply, 25) as u16,
+        byte_at(reply, 26) as u16,
+    ]
 }

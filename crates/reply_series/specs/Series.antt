@@ -67,7 +67,7 @@ pub record Counts (event : Event) (β : Board) (items lent : List ℕ) (r : ℕ)
 
 -- the board β with a block, the kind of a pass and crates: a pass goes by no other part of it
 unfoldable pub withPass : Board → List ℕ → PassKind → List Crate → Board
-withPass β block kind cs = record { identity = β .identity; run = β .run; block = block; kind = kind; active = β .active; crates = cs }
+withPass β block kind cs = record { identity = β .identity; run = β .run; block = block; kind = kind; active = β .active; rates = β .rates; crates = cs }
 
 -- the same of replies, on any board that has the block, the kind and the crates
 abbrev pub CountsGood : List ℕ → PassKind → List Crate → List ℕ → List ℕ → ℕ → List ℕ → Type 0

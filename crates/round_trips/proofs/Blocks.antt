@@ -3,21 +3,24 @@
 -- Assumes nothing.
 use Prim.Native.Nat.{ℕ, _+_, _%_, _^_, _<_, _≤_}
 use mathlib.Core.Path.{_≡_, refl, sym, ap, _∙_}
-use mathlib.Core.List.{List, [], _∷_, _++_}
+use mathlib.Core.List.{List, [], _∷_, _++_, append-nil}
 use native.Mathlib.Nat.{mod-eq-of-lt}
 use native.Mathlib.Omega.{arith}
-use lib.ListN.{length, take, drop, length-append}
-use borrow.Author.Tests.{le-ltb}
+use lib.ListN.{length, getD, take, drop, length-append}
+use lib.Seq.{take-at, drop-at}
+use borrow.Author.Tests.{le-ltb, lt-ltb, eqb-true, not-false}
 use Rattle.refusals.specs.Tables.{given, Rule}
 use Rattle.refusals.specs.declared.Written.the-variants.{Length}
+use Rattle.refusals.proofs.Tables.{Clear}
 use Rattle.refusals.proofs.Writing.{wrote-front}
 use Rattle.words.specs.Words.{wordsIn, bytesOf}
 use Rattle.numbers.specs.Numbers.{digits, number, idLimit}
 use Rattle.numbers.proofs.Numbers.{number-digits}
 use Rattle.words.proofs.Bytes.{Below, words-same}
-use Rattle.bounds.specs.Bounds.{boundOf, measurementBound}
-use Rattle.bounds.proofs.Lent.{above-within, lent-within}
-use Rattle.blocks.specs.Blocks.{headerWords, staticRules, dynamicBody, measurementRules, failureBody, blockRules, WroteBlock, WroteStatic, WroteDynamic}
+use Rattle.bounds.specs.Bounds.{boundOf, measurementBound, lowestAbove, RatesKept}
+use Rattle.bounds.proofs.Lowest.{lowest-over}
+use Rattle.bounds.proofs.Lent.{above-within}
+use Rattle.blocks.specs.Blocks.{headerWords, staticRules, dynamicBody, temperatureRules, failureBody, blockRules, WroteBlock, WroteStatic, WroteDynamic}
 use Rattle.blocks.specs.declared.Header.{Header}
 use Rattle.blocks.proofs.Laws.{block-length, block-clear, block-id}
 use Rattle.ftu_list.specs.List.{listBody}
@@ -60,6 +63,29 @@ module _ (own : List Rule) (kind : Kind) (h : Header) (b out : List ℕ) (n : �
       rw (wrote-front (blockRules own h b out) (headerWords h ++ b) out n after (w .wrote))
       (read-back kind h b (block-id own _ h b out n after w) (w .fits n refl) (block-length own _ h b out n after w) free)
 
+-- ---- what a dynamic block measures
+
+four-temperatures : (t : List ℕ) → Clear (temperatureRules t) → length t ≡ 4
+four-temperatures t c = eqb-true _ _ (not-false _ (c .0))
+
+-- temperatures have no bound but that of a word
+free-temperature : (j : ℕ) → j < 4 → measurementBound j ≡ 0xFFFF
+unfolding measurementBound
+free-temperature j h = rw (lt-ltb j 4 h)
+
+measured-within : (t rates : List ℕ) → length t ≡ 4 → ((j : ℕ) → getD t j 0 ≤ 0xFFFF) → RatesKept rates
+    → length (t ++ rates) ≤ lowestAbove measurementBound 0 (t ++ rates)
+measured-within t rates four words bounded =
+    let first : (j : ℕ) → j < length t → getD t j 0 ≤ measurementBound (0 + j) =
+    λ j l. rw (free-temperature (0 + j) (omega arith)) (words j) in
+    let here : 0 + length t ≡ 4 = omega arith in
+    let later : (j : ℕ) → j < length rates → getD rates j 0 ≤ measurementBound (0 + length t + j) = λ j l. rw here (bounded j) in
+    let e : lowestAbove measurementBound 0 (t ++ rates) ≡ 0 + length t + length rates =
+    lowest-over measurementBound 0 t rates first
+    ∙ ap (lowestAbove measurementBound (0 + length t)) (sym (append-nil rates))
+    ∙ lowest-over measurementBound (0 + length t) rates [] later in
+    omega (arith, length-append t rates)
+
 -- ---- the four kinds
 
 module _ (h : Header) (out : List ℕ) (n : ℕ) (after : List ℕ) where
@@ -68,14 +94,21 @@ module _ (h : Header) (out : List ℕ) (n : ℕ) (after : List ℕ) where
       written-back (staticRules block) Static h block out n after w
       (above-within boundOf 436 block (block-clear (staticRules block) 436 h block out n after w))
 
-  pub dynamic-back : (t : ℕ) (m : List ℕ) → WroteDynamic h t m out (Length n) after → DynamicBack (take n after) (asSent h) t m
-  dynamic-back t m w =
-      let free = lent-within measurementBound 484 m (block-clear (measurementRules m) 487 h (dynamicBody t m) out n after w) in
-      let back = written-back (measurementRules m) Dynamic h (dynamicBody t m) out n after w (omega arith) in
+  -- of rates within their bounds, as those of every board that is reached are
+  pub dynamic-back : (t : ℕ) (temperatures rates : List ℕ) → RatesKept rates
+      → WroteDynamic h t temperatures rates out (Length n) after → DynamicBack (take n after) (asSent h) t temperatures rates
+  dynamic-back t temperatures rates bounded w =
+      let own = temperatureRules temperatures in
+      let body = dynamicBody t temperatures rates in
+      let four = four-temperatures temperatures (block-clear own 487 h body out n after (w .block)) in
+      let long = block-length own 487 h body out n after (w .block) in
+      let free = measured-within temperatures rates four (w .words) bounded in
+      let back = written-back own Dynamic h body out n after (w .block) (omega arith) in
       record {
         block = back;
         on-time = ap (λ (b : List ℕ). number 65536 (take 3 b)) (back .body) ∙ number-digits 65536 (omega arith) 3 t;
-        measurements = ap (drop 3) (back .body);
+        temperatures = ap (λ (b : List ℕ). take 4 (drop 3 b)) (back .body) ∙ take-at temperatures rates 4 four;
+        rates = ap (drop 7) (back .body) ∙ drop-at temperatures rates 4 four;
       }
 
   -- whatever rows the board puts in front

@@ -26,8 +26,10 @@ pub record ReadsBack (kind : Kind) (w : List ℕ) (h : Header) (b : List ℕ) : 
   pub header : blockAnswer kind w ≡ given h
   pub body : bodyOf kind w ≡ b
 
--- the dynamic block reads as h, with the on-time t, "in three [words]", so its lowest 48 bits, and the measurements m
-pub record DynamicBack (w : List ℕ) (h : Header) (t : ℕ) (m : List ℕ) : Type 0 where
-  pub block : ReadsBack Dynamic w h (dynamicBody t m)
+-- the dynamic block reads as h, with the on-time t, "in three [words]", so its lowest 48 bits; then "four temperatures", which
+-- "are still lent", and the rates, "fetched by the controller" (02, i)
+pub record DynamicBack (w : List ℕ) (h : Header) (t : ℕ) (lent fetched : List ℕ) : Type 0 where
+  pub block : ReadsBack Dynamic w h (dynamicBody t lent fetched)
   pub on-time : number 65536 (take 3 (bodyOf Dynamic w)) ≡ t % 2 ^ 48
-  pub measurements : drop 3 (bodyOf Dynamic w) ≡ m
+  pub temperatures : take 4 (drop 3 (bodyOf Dynamic w)) ≡ lent
+  pub rates : drop 7 (bodyOf Dynamic w) ≡ fetched

@@ -6,7 +6,7 @@ use mathlib.Core.Bool.{Bool}
 use mathlib.Core.List.{List, [], _∷_, _++_}
 use lib.ListN.{length, take, getD, List·getD-append}
 use lib.Seq.{length-take-le, getD-take}
-use Rattle.replies.specs.Replies.{carriedIn}
+use Rattle.replies.specs.Replies.{carriedIn, ratesIn}
 use Rattle.replies.proofs.Sent.{good-sent}
 use Rattle.steps.specs.Steps.{judgedReply}
 
@@ -20,5 +20,5 @@ module _ (frame : List ℕ) (h : 27 ≤ length frame) where
   unfolding judgedReply
   judged-before r =
       ap
-      (λ (t : Bool). record { good = t; dna = carriedIn r .dna; «crc_errors» = carriedIn r .«crc_errors» })
+      (λ (t : Bool). record { good = t; dna = carriedIn r .dna; «crc_errors» = carriedIn r .«crc_errors»; rates = ratesIn r })
       (good-sent (take 27 frame ++ (0 ∷ [])) frame r same)

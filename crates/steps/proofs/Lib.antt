@@ -1,4 +1,4 @@
 -- Laws that belong to no one function.
 pub mod Lengths
 pub mod Before
-pub mod PingReply
+pub mod Carried

@@ -12,6 +12,7 @@ use refusals::Refusal;
 use refusals::Written;
 use replies::carried;
 use replies::is_good;
+use replies::rates_in;
 
 // What follows a frame: a reply, or none in time.
 pub enum Event {
@@ -19,11 +20,13 @@ pub enum Event {
     TimeUp,
 }
 
-// What a reply or a time-up says as the answer to a frame: whether it is good, and what a ping reply carries.
+// What a reply or a time-up says as the answer to a frame: whether it is good, and what a reply to a ping and one with rates carry.
 pub struct Judged {
     pub good: bool,
     pub dna: u64,
     pub crc_errors: u8,
+    // The words of a board in a dynamic block.
+    pub rates: [u16; 12],
 }
 
 // The code of a number.
@@ -36,8 +39,10 @@ fn code_numbered(number: u8) -> Code
         Code::Enables
     } else if number == 3 {
         Code::Prescaling
-    } else {
+    } else if number == 4 {
         Code::Ping
+    } else {
+        Code::Rates
     }
 }
 
@@ -75,6 +80,7 @@ fn judge(sent: [u8; 28], reply: &[u8]) -> Judged
         good: is_good(sent, reply),
         dna: ping.dna,
         crc_errors: ping.crc_errors,
+        rates: rates_in(&reply[..n]),
     }
 }
 
@@ -94,6 +100,7 @@ fn no_reply() -> Judged
         good: false,
         dna: 0,
         crc_errors: 0,
+        rates: [0; 12],
     }
 }
 

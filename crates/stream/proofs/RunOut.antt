@@ -1,5 +1,5 @@
--- Silent boards end every pass, from any state (`runs-out`): three time-ups for each board that is left are enough for a crate.
--- Assumes nothing.
+-- Silent boards end every pass of the three kinds, from any state (`runs-out`): three time-ups for each board that is left are enough for a crate.
+-- A rate pass leaves the board running or idle as it was (`rate-pass-runs-out`). Assumes nothing.
 use Prim.Native.Nat.{ℕ, zero, suc, _+_, _*_, _-_, _<_, _≤_}
 use mathlib.Core.Path.{_≡_, refl, sym, subst, _∙_}
 use mathlib.Core.Bool.{Bool, true, false, cond}
@@ -14,9 +14,10 @@ use Rattle.crate_pass.specs.Crate.{serves, firstServed, nextBoard, placed, with
 use Rattle.crate_pass.specs.declared.PassKind.{PassKind}
 use Rattle.crate_pass.specs.declared.Outcome.the-variants.{Again, BoardFailed}
 use Rattle.crate_pass.specs.declared.Crate.{Crate}
-use Rattle.four_crates.specs.FourCrates.{noCrate, inPass}
+use Rattle.four_crates.specs.FourCrates.{noCrate, inPass, begunAll}
 use Rattle.board.specs.State.{crateAt, withCrates, isIdle}
 use Rattle.board.specs.SlowControl.{boardReplied}
+use Rattle.board.specs.RatePass.{ratesBegun}
 use Rattle.board.specs.declared.Board.{Board}
 use Rattle.stream.specs.Stream.{timedUp, timeUps, ranOut}
 
@@ -189,3 +190,8 @@ module _ (β : Board) where
     -- so a board on which no run is on is idle
     pub ran-out-idle : isRunning (β .run) ≡ false → isIdle (ranOut β) ≡ true
     ran-out-idle h = rw (ran-out-run, h, runs-out)
+
+-- 02, i: a rate pass with silent boards ends too, and the run is as before: "the board runs or is idle as before"
+pub rate-pass-runs-out : (β : Board) → (inPass (ranOut (ratesBegun β) .crates) ≡ false) × (ranOut (ratesBegun β) .run ≡ β .run)
+unfolding ratesBegun begunAll
+rate-pass-runs-out β = (runs-out (ratesBegun β) refl, ran-out-run (ratesBegun β))

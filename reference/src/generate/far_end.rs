@@ -3,10 +3,10 @@
 
 use super::{
     bytes_line, clock_line, mend, power_up_line, random_block, random_measurements, serve_pass,
-    session_block, suited_command, trigger_line, words_line, Random, Script, GROUP, SCRIPTS,
+    session_block, suited_command, temperatures_line, trigger_line, Random, Script, GROUP, SCRIPTS,
 };
 use crate::blocks::{Kind, HEADER};
-use crate::board::{Board, Mode};
+use crate::board::Board;
 use crate::commands::{Command, Events, ReadBlock};
 use crate::packets;
 use crate::replay::{push_words, KINDS, MAX_DIGITS};
@@ -444,10 +444,14 @@ fn exchange(random: &mut Random, script: &mut Script) {
         if random.chance(80) {
             serve_pass(random, script, 85);
         }
+        if random.chance(25) {
+            script.push(b"B");
+            serve_pass(random, script, 85);
+        }
         for _ in 0..random.below(12) {
-            let Mode::Running(_) = script.mode() else {
+            if !script.is_running() {
                 break;
-            };
+            }
             script.push(&clock_line(random));
             script.push(&trigger_line(random));
             read_back(random, script, b'G');
@@ -456,7 +460,7 @@ fn exchange(random: &mut Random, script: &mut Script) {
             if random.chance(40) {
                 let line = match letter {
                     b'M' => bytes_line(b'M', &[random.below(3) as u8]),
-                    b'D' => words_line(b'D', &random_measurements(random)),
+                    b'D' => temperatures_line(random),
                     _ => vec![letter],
                 };
                 script.push(&line);
@@ -470,6 +474,7 @@ fn exchange(random: &mut Random, script: &mut Script) {
 mod tests {
     use std::collections::BTreeSet;
 
+    use super::super::words_line;
     use super::*;
 
     fn answer(script: &mut Script, line: &[u8]) -> String {

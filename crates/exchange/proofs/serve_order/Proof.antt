@@ -1,6 +1,7 @@
 -- `exchange::serve_order` meets its contract. Assumes nothing.
 use denote.Ref.{now}
-use Rattle.exchange.proofs.Letters.{orders-P, orders-C, orders-K, orders-G, orders-R, orders-T, orders-other, ordered-as, ordered-in-bytes-as}
+use Rattle.exchange.proofs.Letters.{orders-P, orders-C, orders-K, orders-G, orders-R, orders-T, orders-B, orders-other}
+use Rattle.exchange.proofs.Letters.{ordered-as, ordered-in-bytes-as}
 use borrow.Author.Needs.{needs}
 use Rattle.exchange.proofs.serve_order.Statement.{statement}
 use Rattle.exchange.proofs.serve_order.Tie as tie
@@ -22,6 +23,9 @@ reply-order-requires c κs = search needs
 
 time-up-order-requires : tie.Need-time-up-order-requires
 time-up-order-requires c κs = search needs
+
+begin-rates-order-requires : tie.Need-begin-rates-order-requires
+begin-rates-order-requires c κs = search needs
 
 ask-requires : tie.Need-ask-requires
 ask-requires c κs = search needs
@@ -64,10 +68,16 @@ returns-6 c =
 
 returns-7 : tie.Need-returns-7
 returns-7 c =
+    let at-letter = c .before in
+    let a = at-letter .before .before .args in
+    ordered-as (a .board) _ _ (orders-B (a .letter) (now (a .bytes)) (at-letter .match .keys7)) _ _ _ (c .begin-rates-order .ensures)
+
+returns-8 : tie.Need-returns-8
+returns-8 c =
     let at-letter = c .before .before .before in
     let a = at-letter .before .before .args in
     let other = at-letter .match .rest in
-    orders-other (a .letter) (now (a .bytes)) (a .board) (other .0 .0 .0 .0 .0 .1) (other .0 .0 .0 .0 .1)
+    orders-other (a .letter) (now (a .bytes)) (a .board) (other .0 .0 .0 .0 .0 .0 .1) (other .0 .0 .0 .0 .0 .1) (other .0 .0 .0 .0 .1)
     (other .0 .0 .0 .1) (other .0 .0 .1) (other .0 .1) (other .1) (c .ask .result) _ _ (c .ask .ensures)
 
 pub serve-order-spec : {M : Type 1} → statement M
@@ -80,6 +90,7 @@ serve-order-spec =
     trigger-order-requires
     reply-order-requires
     time-up-order-requires
+    begin-rates-order-requires
     ask-requires
     returns
     returns-2
@@ -87,4 +98,5 @@ serve-order-spec =
     returns-4
     returns-5
     returns-6
-    returns-7)
+    returns-7
+    returns-8)

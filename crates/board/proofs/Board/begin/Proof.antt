@@ -27,7 +27,7 @@ returns : tie.Need-returns
 returns c =
     let at-words = c .before .before in
     let at-kind = at-words .before .before .before in
-    let a = at-kind .before .before .before .before .before .before .before .args in
+    let a = at-kind .before .before .before .before .before .before .before .before .args in
     begun-as (a .self) (now (a .command-block)) _ _ _ _ _ _ (a .is-write) (at-kind .kind-of .ensures) (at-words .before .before .run-after .ensures)
     (at-words .before .block-after .ensures) (at-words .active-words .ensures) (c .before .active-after .ensures) (c .begin-all .ensures)
 

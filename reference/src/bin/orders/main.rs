@@ -1,11 +1,15 @@
 //! Serves each random pass in a mixed order and crate by crate, in another
-//! replay program and in the model, and compares (01, demand 3; 02, d):
+//! replay program and in the model, and compares (01, demand 3; 02, d and i);
+//! then as many rate passes with triggers, stops and clock steps between, without
+//! these, and without the pass (02, i):
 //! `orders PATH-TO-OTHER-REPLAY [PASSES [SEED]]`.
 
 use std::process::ExitCode;
 
 use reference::generate::{self, bytes_line, Item, Pass};
 use reference::other::{self, shown, Compared};
+
+mod between;
 
 const PASSES: usize = 500;
 const SEED: u64 = 1;
@@ -143,21 +147,38 @@ fn report(pass: &Pass, number: usize, seed: u64, difference: &str) -> String {
     format!("pass {number}, seed {seed}: {difference}\n  the mixed order: {saved}")
 }
 
+/// Says how many passes and lines agreed; false if one differs or there is none.
+fn verdict(what: &str, compared: &Compared) -> bool {
+    let Compared { served, lines, differing } = compared;
+    if *differing > 0 || *served == 0 {
+        println!("{served} {what}, {lines} lines: {differing} passes differ");
+        return false;
+    }
+    println!("{served} {what}, {lines} lines: all agree");
+    true
+}
+
 fn main() -> ExitCode {
     let Some((program, passes, seed)) = other::arguments(PASSES, SEED) else {
         eprintln!("usage: orders PATH-TO-OTHER-REPLAY [PASSES [SEED]]");
         return ExitCode::from(2);
     };
-    let Compared { served, lines, differing } = other::compare_all(passes, |number| {
+    let orders = other::compare_all(passes, |number| {
         let pass = generate::pass(seed, number);
         serve(&program, &pass).map_err(|difference| report(&pass, number, seed, &difference))
     });
-    if differing > 0 || served == 0 {
-        println!("{served} passes in two orders, {lines} lines: {differing} passes differ");
-        return ExitCode::FAILURE;
+    let orders = verdict("passes in two orders", &orders);
+    let between = other::compare_all(passes, |number| {
+        let pass = generate::between(seed, number);
+        between::serve(&program, &pass)
+            .map_err(|difference| between::report(&pass, number, seed, &difference))
+    });
+    let between = verdict("rate passes with and without others between", &between);
+    if orders && between {
+        ExitCode::SUCCESS
+    } else {
+        ExitCode::FAILURE
     }
-    println!("{served} passes in two orders, {lines} lines: all agree");
-    ExitCode::SUCCESS
 }
 
 #[cfg(test)]

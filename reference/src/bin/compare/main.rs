@@ -6,11 +6,15 @@ use std::iter;
 use std::process::ExitCode;
 use std::sync::Mutex;
 
-use reference::board::Mode;
+use reference::board::{Mode, PassKind};
 use reference::generate::{self, crate_in, Generated, SCRIPTS};
 use reference::other::{self, shown, Served};
 use reference::replay::MAX_DIGITS;
 use reference::{frames, CRATES};
+
+use rates::Answered;
+
+mod rates;
 
 const SEED: u64 = 1;
 
@@ -73,7 +77,8 @@ const REACHABLE: &[&str] = &[
     "M 18",
     "D 0",
     "D 6",
-    "D 8",
+    "B 0",
+    "B 9",
     "?",
 ];
 
@@ -100,8 +105,9 @@ const OTHER_FORMS: &[&str] = &[
 
 /// Crate resets and starts by what came before them (02, b): these answers have
 /// such a name beside the one in the first list. The run or reset that is named
-/// cleared fresh; the ping or refused write came after the last accepted reset;
-/// the write set fresh again; the refused reset came after the last accepted write.
+/// cleared fresh; the ping, rate pass or refused write came after the last accepted
+/// reset; the write set fresh again; the refused reset and, where a start follows,
+/// the rate pass came after the last accepted write.
 const RESETS: &[&str] = &[
     "C reset while fresh",
     "C reset before any write",
@@ -110,11 +116,15 @@ const RESETS: &[&str] = &[
     "C 9 reset while running",
     "C 9 reset while reprogramming",
     "C 9 reset while pinging",
+    "C 9 reset while fetching rates",
+    "C 9 reset while running and fetching rates",
     "C 10 before any write",
     "C 10 after a run",
     "C 10 after a reset",
     "C 10 after a reset and a ping",
+    "C 10 after a reset and a rate pass",
     "C 10 after a reset and a refused write",
+    "C start after a rate pass",
     "C start after a reset and a write",
     "C start after a reset refused with 4",
     "C start after a reset refused with 5",
@@ -139,12 +149,16 @@ const FETCHES: &[&str] = &[
 ];
 
 /// Every answer that must be seen.
-fn listed() -> Vec<&'static str> {
-    [REACHABLE, FAR_END, OTHER_FORMS, RESETS, FETCHES].concat()
+fn listed() -> Vec<String> {
+    let listed = [REACHABLE, FAR_END, OTHER_FORMS, RESETS, FETCHES].concat();
+    listed.into_iter().map(String::from).chain(rates::listed()).collect()
 }
 
-/// The digits of the IDs of a write and a crate reset.
+/// The digits of the IDs of commands.
 const WRITE_ID: &[u8; 4] = b"0002";
+const START_ID: &[u8; 4] = b"0004";
+const STOP_ID: &[u8; 4] = b"0008";
+const PING_ID: &[u8; 4] = b"0010";
 const RESET_ID: &[u8; 4] = b"0020";
 /// How the name of an accepted reset begins.
 const ACCEPTED_RESET: &str = "C 5 reset";
@@ -177,8 +191,10 @@ struct Past {
     set_again: bool,
     /// The refusals of resets since the last accepted write.
     refused_resets: BTreeSet<String>,
-    /// Pings and refused writes since the last accepted reset.
+    /// Pings, rate passes and refused writes since the last accepted reset.
     since_reset: BTreeSet<&'static str>,
+    /// A rate pass began since the last accepted write.
+    rates_since_write: bool,
 }
 
 impl Past {
@@ -201,10 +217,11 @@ impl Past {
 
     /// The names of an accepted start.
     fn start_names(&self) -> Vec<String> {
+        let rates = self.rates_since_write.then(|| "C start after a rate pass".to_string());
         let again = self.set_again.then(|| "C start after a reset and a write".to_string());
         let refused = self.refused_resets.iter();
         let refused = refused.map(|number| format!("C start after a reset refused with {number}"));
-        again.into_iter().chain(refused).collect()
+        rates.into_iter().chain(again).chain(refused).collect()
     }
 
     /// Adds the line that had this answer. All lines of a script come in turn.
@@ -214,6 +231,11 @@ impl Past {
             "C 441 write" => {
                 self.set_again = !fresh && self.cleared == Cleared::ByReset;
                 self.refused_resets.clear();
+                self.rates_since_write = false;
+            }
+            "B 0" => {
+                self.since_reset.insert("a rate pass");
+                self.rates_since_write = true;
             }
             "C 5 start" | "C 7 start" => self.cleared = Cleared::ByStart,
             "C 5 ping" => {
@@ -296,7 +318,7 @@ impl Buses {
     fn add(&mut self, line: &[u8], name: &str) {
         match name {
             "P 0" => *self = Buses::default(),
-            "C 441 write" | "C 5 ping" => self.begin_pass(),
+            "C 441 write" | "C 5 ping" | "B 0" => self.begin_pass(),
             "F 0" => self.buses[crate_in(line)].fetched = true,
             "R 11" | "T 11" => {}
             "R 12" | "T 12" => self.buses[crate_in(line)].refused = true,
@@ -320,11 +342,15 @@ impl Buses {
 }
 
 fn mode_name(mode: Mode) -> &'static str {
-    match mode {
-        Mode::Idle => "idle",
-        Mode::Running(_) => "running",
-        Mode::Reprogramming => "reprogramming",
-        Mode::Ping => "pinging",
+    match (mode.pass, mode.run.is_some()) {
+        (None, false) => "idle",
+        (None, true) => "running",
+        (Some(PassKind::Reprogramming), false) => "reprogramming",
+        (Some(PassKind::Ping), false) => "pinging",
+        (Some(PassKind::Rates), false) => "fetching rates",
+        (Some(PassKind::Rates), true) => "running and fetching rates",
+        // In no list.
+        (Some(_), true) => "running and in another pass",
     }
 }
 
@@ -397,8 +423,8 @@ fn other_form(line: &[u8]) -> Option<&'static str> {
     }
 }
 
-/// The name of each answer to a script's lines, and its names in `RESETS` and
-/// `FETCHES`.
+/// The name of each answer to a script's lines, and its names in `RESETS`,
+/// `FETCHES` and the lists of `rates`.
 fn names<'a>(
     script_lines: &'a [&[u8]],
     answers: &'a [&[u8]],
@@ -406,13 +432,18 @@ fn names<'a>(
 ) -> impl Iterator<Item = (String, Vec<String>)> + 'a {
     let mut past = Past::default();
     let mut buses = Buses::default();
-    answers.iter().zip(served).map(move |(answer, &Served { number, mode, fresh })| {
+    let mut rates = rates::Past::default();
+    answers.iter().zip(served).map(move |(answer, served)| {
+        let &Served { number, mode, fresh, .. } = served;
         let line = script_lines[number];
         let name = name(line, answer);
+        let answered = Answered { line, answer, name: &name, served };
         let mut others = past.names(line, &name, mode, fresh);
         others.extend(buses.names(line, &name).into_iter().map(String::from));
+        others.extend(rates.names(&answered));
         past.add(line, &name, fresh);
         buses.add(line, &name);
+        rates.add(&answered);
         (name, others)
     })
 }
@@ -487,12 +518,12 @@ fn print_seen(seen: &Seen) {
 /// False, with a line that says which, if an answer in the lists was never seen
 /// or one was seen that is in none.
 fn check_seen(seen: &Seen) -> bool {
-    let listed = listed();
-    let missing = listed.iter().copied().filter(|&name| !seen.contains_key(name)).collect();
-    let unlisted = seen.keys().map(String::as_str).filter(|name| !listed.contains(name)).collect();
+    let listed: BTreeSet<String> = listed().into_iter().collect();
+    let missing = listed.iter().filter(|&name| !seen.contains_key(name)).cloned().collect();
+    let unlisted = seen.keys().filter(|&name| !listed.contains(name)).cloned().collect();
     let mut right = true;
     for (what, names) in [("never seen", missing), ("seen and not listed", unlisted)] {
-        let names: Vec<&str> = names;
+        let names: Vec<String> = names;
         if !names.is_empty() {
             println!("{what}: {}", names.join(", "));
             right = false;
@@ -726,13 +757,168 @@ mod tests {
         ]);
     }
 
+    const DYNAMIC: &str = "D0000 0000 0000 0000\n";
+    const FETCH: &str = "F03\n";
+    const RATES: &str = "B\n";
+    const SILENT: &str = "T03\nT03\nT03\n";
+
+    /// A reply of board 0 of crate 3 with these counts, overflow, byte 3 and byte 26.
+    fn rates_line(counts: [u32; 5], free: [u8; 3]) -> String {
+        let mut reply = vec![0x40, 192, 0x30, free[1], frames::RATES];
+        counts.iter().for_each(|count| reply.extend(count.to_be_bytes()));
+        reply.extend([free[0], free[2]]);
+        reply.push(reference::crc::crc8(&reply));
+        let digits: String = reply.iter().map(|byte| format!("{byte:02X}")).collect();
+        format!("R03 {digits}\n")
+    }
+
+    #[test]
+    fn names_in_a_rate_pass() {
+        let write: &str = &write_line("0001");
+        check_names(&[
+            (
+                &[write, RATES, SILENT, START, RATES, RATES, RESET, PING, write, START, TRIGGER],
+                &[
+                    "B 9 while reprogramming",
+                    "B 0 while running",
+                    "B 9 while running and fetching rates",
+                    "C 9 reset while running and fetching rates",
+                    "C 9 ping while running and fetching rates",
+                    "C 9 write while running and fetching rates",
+                    "C 9 start while running and fetching rates",
+                    "G 0 while running and fetching rates",
+                ],
+            ),
+            // Not in a rate pass, and after another pass.
+            (&[PING, RATES, STOP, "F00\n", &time_ups(), "M00\n"], &["B 9 while pinging"]),
+        ]);
+    }
+
+    #[test]
+    fn names_of_runs_that_end_in_a_rate_pass() {
+        let (write, counts) = (&write_line("0001"), &rates_line([1, 0, 0, 0, 1], [0; 3]));
+        check_names(&[
+            (
+                &[write, SILENT, START, RATES, STOP, STOP, TRIGGER, "L\nX\nC\nK\n", counts],
+                &[
+                    "B 0 while running",
+                    "C 5 stop while running and fetching rates",
+                    "C 9 stop while fetching rates",
+                    "G 16 while fetching rates",
+                    "L 9 while fetching rates",
+                    "R good done while fetching rates",
+                ],
+            ),
+            (
+                &[write, SILENT, START_OF_ONE, RATES, TRIGGER, SILENT, "M00\nM01\n"],
+                &[
+                    "B 0 while running",
+                    "G 0 while running and fetching rates",
+                    "G 0 that ends a run while fetching rates",
+                    "T again frame while fetching rates",
+                    "T again frame while fetching rates",
+                    "T failed done while fetching rates",
+                    "M 0 after a rate pass",
+                    "M 18 after a rate pass",
+                ],
+            ),
+        ]);
+    }
+
+    const IDLE: &str = "B 0 while idle";
+    const NONE_ACTIVE: &str = "B 0 while idle, without an active board";
+    const SECOND: &str = "B 0 after a rate pass";
+    const DONE: &str = "R good done while fetching rates";
+    const FIRST: &str = "D 0 with zeros before any rate pass";
+    const SHOWN: &str = "D 0 with rates while idle";
+
+    #[test]
+    fn names_of_rates_shown() {
+        let (write, counts) = (&write_line("0001"), &rates_line([0, 0, 0, 0, 1], [0; 3]));
+        let while_fetching = "D 0 while fetching rates";
+        let earlier = "D 0 with rates while fetching rates";
+        let zeros = "D 0 with zeros after rates";
+        check_names(&[
+            (&[DYNAMIC, RATES, DYNAMIC], &[FIRST, NONE_ACTIVE, IDLE]),
+            (
+                &[write, SILENT, RATES, DYNAMIC, counts, DYNAMIC, RATES, DYNAMIC],
+                &[IDLE, while_fetching, FIRST, DONE, SHOWN, IDLE, SECOND, while_fetching, earlier],
+            ),
+            (
+                &[write, SILENT, RATES, counts, DYNAMIC, &write_line("0000"), RATES, DYNAMIC],
+                &[IDLE, DONE, SHOWN, NONE_ACTIVE, IDLE, SECOND, zeros],
+            ),
+            (
+                &["D\nD00\n", &format!("D{}\n", "0000".repeat(484))],
+                &["D 6 with 0 words", "D 6 with 484 words"],
+            ),
+        ]);
+    }
+
+    #[test]
+    fn names_of_rates_shown_after_other_commands() {
+        let (write, counts) = (&write_line("0001"), &rates_line([0, 0, 0, 0, 1], [0; 3]));
+        let (after_reset, after_write) =
+            ("D 0 with rates after a reset", "D 0 with rates after a write");
+        check_names(&[(
+            &[write, SILENT, RATES, counts, RESET, DYNAMIC, &write_line("0000"), DYNAMIC],
+            &[
+                IDLE,
+                DONE,
+                "C reset while fresh",
+                SHOWN,
+                after_reset,
+                SHOWN,
+                after_reset,
+                after_write,
+            ],
+        )]);
+    }
+
+    /// Only where the address of the outstanding frame was shown, and no other thing
+    /// is wrong.
+    #[test]
+    fn names_of_counts() {
+        let write: &str = &write_line("0001");
+        let top = 1 << 30;
+        let begin = [write, SILENT, START, RATES].concat();
+        let frame = "F 0 after one counted in an earlier pass";
+        let fetched = ["B 0 while running", frame, "F 0 while running and fetching rates"];
+        let again = "R again frame while running and fetching rates";
+        let good = "R good done while running and fetching rates";
+        for (counts, free, expected) in [
+            (
+                [top - 1, 0, 0, 0, top - 1],
+                [0; 3],
+                &[good, "R good with count 0 at 2^30 - 1", "R good with count 4 at 2^30 - 1"][..],
+            ),
+            ([0, top, 0, top - 1, 0], [1; 3], &[again, "R bad with count 1 at 2^30"]),
+            ([0, 0, u32::MAX, 0, 0], [0; 3], &[again, "R bad with count 2 at 2^32 - 1"]),
+            ([top, 0, top, 0, 0], [0; 3], &[again]),
+            ([0; 5], [1, 0, 0], &[good, "R good with an overflow"]),
+            ([0; 5], [0, 1, 0], &[good, "R good with byte 3"]),
+            ([0; 5], [0, 0, 1], &[good, "R good with CRC errors"]),
+            ([1, 2, 3, 4, 11], [0; 3], &[good, "R good with a total that is not the sum"]),
+            ([1, 2, 3, 4, 10], [0; 3], &[good]),
+        ] {
+            let line = rates_line(counts, free);
+            let whole = [&fetched[..], expected].concat();
+            check_names(&[
+                (&[&begin, FETCH, &line], &whole),
+                (&[&begin, &line], &["B 0 while running", expected[0]]),
+            ]);
+        }
+        let line = rates_line([top, 0, 0, 0, 0], [0; 3]).replace("R03 40C030", "R03 40C031");
+        check_names(&[(&[&begin, FETCH, &line], &[&fetched[..], &[again]].concat())]);
+    }
+
     #[test]
     fn answers_are_those_listed() {
         let listed = listed();
-        let seen: Seen = listed.iter().map(|name| (name.to_string(), 1)).collect();
+        let seen: Seen = listed.iter().map(|name| (name.clone(), 1)).collect();
         assert_eq!(seen.len(), listed.len());
         assert!(check_seen(&seen));
-        for name in listed {
+        for name in &listed {
             let mut fewer = seen.clone();
             fewer.remove(name);
             assert!(!check_seen(&fewer), "without {name}");
@@ -745,6 +931,12 @@ mod tests {
             "T good frame",
             "C 10 while fresh",
             "F 0 after one counted",
+            "D 8",
+            "B 9 while idle",
+            "R good with count 0 at 2^30",
+            "R bad with count 4 at 2^30 - 1",
+            "D 0 with rates before any rate pass",
+            "L 0 while fetching rates",
         ] {
             let mut more = seen.clone();
             more.insert(name.to_string(), 1);
