@@ -33,6 +33,17 @@ impl Mode {
     pub const IDLE: Mode = Mode { run: None, pass: None };
 }
 
+/// What became of the last accepted write (02, c). Only what clears a set fresh
+/// uses it up: the first run or crate reset since that write.
+#[derive(Clone, Copy, Debug, PartialEq, Eq)]
+pub enum LastWrite {
+    /// No write was ever accepted.
+    Never,
+    Fresh,
+    UsedByRun,
+    UsedByReset,
+}
+
 /// What was done on a command.
 #[derive(Clone, Copy, Debug, PartialEq, Eq)]
 pub enum Done {
@@ -97,7 +108,7 @@ pub struct Board {
     board_id: u64,
     firmware_id: u16,
     mode: Mode,
-    fresh: bool,
+    last_write: LastWrite,
     trigger_counter: u32,
     timestamp: u64,
     on_time: u64,
@@ -121,7 +132,7 @@ impl Board {
             board_id,
             firmware_id,
             mode: Mode::IDLE,
-            fresh: false,
+            last_write: LastWrite::Never,
             trigger_counter: 0,
             timestamp: 0,
             on_time: 0,
@@ -139,10 +150,15 @@ impl Board {
         self.mode
     }
 
+    /// What became of the last accepted write.
+    pub fn last_write(&self) -> LastWrite {
+        self.last_write
+    }
+
     /// Whether no start and no crate reset was accepted since the last accepted
     /// write; false before any.
     pub fn fresh(&self) -> bool {
-        self.fresh
+        self.last_write == LastWrite::Fresh
     }
 
     /// The stored static block.
@@ -175,15 +191,15 @@ impl Board {
             Command::Read(block) => Ok(Done::Read(block)),
             Command::Write(block) => {
                 self.block.copy_from_slice(block);
-                self.fresh = true;
+                self.last_write = LastWrite::Fresh;
                 self.begin_pass(PassKind::Reprogramming);
                 Ok(Done::Write)
             }
             Command::Start(events) => {
-                if !self.fresh {
+                if !self.fresh() {
                     return Err(Refusal::NotFresh);
                 }
-                self.fresh = false;
+                self.last_write = LastWrite::UsedByRun;
                 self.zero_counters();
                 self.mode.run = Some(events);
                 Ok(Done::Start)
@@ -200,7 +216,9 @@ impl Board {
             }
             Command::Reset(crate_number) => {
                 // The crate has lost its settings: a start needs a new write (02, b).
-                self.fresh = false;
+                if self.fresh() {
+                    self.last_write = LastWrite::UsedByReset;
+                }
                 Ok(Done::Reset(crate_number))
             }
         }
@@ -905,19 +923,20 @@ mod tests {
         for crate_number in 0..4 {
             let mut board = used_board();
             let before = board.clone();
-            assert!(before.fresh && before.timestamp == 9 && before.list[0] == 40);
+            assert!(before.fresh() && before.timestamp == 9 && before.list[0] == 40);
             assert_eq!(before.failures.iter().flatten().count(), 3);
             assert_eq!([0, 1, 2, 3].map(|c| before.frames_sent(c)), [Ok(3), Ok(3), Ok(0), Ok(3)]);
             let done = Done::Reset(crate_number);
             assert_eq!(board.obey(&reset_words(crate_number)), Ok((done, 5)));
-            assert_eq!(board, Board { fresh: false, ..before.clone() });
+            let last_write = LastWrite::UsedByReset;
+            assert_eq!(board, Board { last_write, ..before.clone() });
             let mut out = [0; 447];
             board.static_block(&mut out).unwrap();
             assert_eq!(&out[11..], before.block());
             let refused = CommandRefused { refusal: Refusal::NotFresh, used: 5 };
             assert_eq!(board.obey(&START), Err(refused));
             assert_eq!(board.obey(&reset_words(crate_number)), Ok((done, 5)));
-            assert_eq!(board, Board { fresh: false, ..before });
+            assert_eq!(board, Board { last_write, ..before });
             board.obey(&write_words(|_| ())).unwrap();
             assert_eq!(board.obey(&START), Ok((Done::Start, 5)));
         }
@@ -1236,7 +1255,10 @@ mod tests {
             for crate_number in [0, 1, 3] {
                 give_rates(&mut board, crate_number);
             }
-            assert_eq!((board.mode, board.list, board.fresh), (before.mode, before.list, !running));
+            assert_eq!(
+                (board.mode, board.list, board.fresh()),
+                (before.mode, before.list, !running)
+            );
             assert_eq!(board.failure_message(0, &mut [0; 40]), Err(Refusal::NoSuchRecord));
             assert_eq!(shown_rates(&board), rates_with(&[0, 11, 33]));
         }

@@ -6,6 +6,30 @@ use crate::{configuration, Refusal};
 pub const DELIMITER: u16 = 0x0040;
 /// Words of a command before its data block.
 pub const HEAD: usize = 5;
+/// Words of X.
+pub const EVENTS: usize = 2;
+
+/// The IDs of commands.
+pub const READ: u16 = 0x01;
+pub const WRITE: u16 = 0x02;
+pub const START: u16 = 0x04;
+pub const STOP: u16 = 0x08;
+pub const PING: u16 = 0x10;
+pub const RESET: u16 = 0x20;
+/// All of them, in the order of 01's table.
+pub const IDS: [u16; 6] = [READ, WRITE, START, STOP, PING, RESET];
+
+/// The parameters that 01's table lists for an ID, in its order; none if the ID
+/// is unknown.
+pub fn parameters(id: u16) -> Option<&'static [u16]> {
+    match id {
+        READ | START => Some(&[1, 2]),
+        WRITE => Some(&[1]),
+        STOP | PING => Some(&[0]),
+        RESET => Some(&[1, 2, 4, 8]),
+        _ => None,
+    }
+}
 
 /// The block that a read command names.
 #[derive(Clone, Copy, Debug, PartialEq, Eq)]
@@ -40,26 +64,26 @@ pub fn read(words: &[u16]) -> Result<(Command<'_>, usize), Refusal> {
     check_head(words)?;
     let data = &words[HEAD..];
     let command = match (words[1], words[2]) {
-        (0x01, 1) => Command::Read(ReadBlock::Static),
-        (0x01, _) => Command::Read(ReadBlock::Dynamic),
-        (0x02, _) => {
+        (READ, 1) => Command::Read(ReadBlock::Static),
+        (READ, _) => Command::Read(ReadBlock::Dynamic),
+        (WRITE, _) => {
             let block = data.get(..configuration::WORDS).ok_or(Refusal::WrongLength)?;
             configuration::check(block)?;
             return Ok((Command::Write(block), HEAD + configuration::WORDS));
         }
-        (0x04, 1) => Command::Start(Events::Endless),
-        (0x04, _) => {
-            if data.len() < 2 {
+        (START, 1) => Command::Start(Events::Endless),
+        (START, _) => {
+            if data.len() < EVENTS {
                 return Err(Refusal::WrongLength);
             }
             let events = u32::from(data[0]) << 16 | u32::from(data[1]);
             if events == 0 {
                 return Err(Refusal::NoEvents);
             }
-            return Ok((Command::Start(Events::Counted(events)), HEAD + 2));
+            return Ok((Command::Start(Events::Counted(events)), HEAD + EVENTS));
         }
-        (0x08, _) => Command::Stop,
-        (0x10, _) => Command::Ping,
+        (STOP, _) => Command::Stop,
+        (PING, _) => Command::Ping,
         (_, parameter) => Command::Reset(parameter.trailing_zeros() as u8),
     };
     Ok((command, HEAD))
@@ -73,15 +97,8 @@ fn check_head(words: &[u16]) -> Result<(), Refusal> {
     if words[0] != DELIMITER {
         return Err(Refusal::WrongDelimiter);
     }
-    let parameter = words[2];
-    let allowed = match words[1] {
-        0x01 | 0x04 => matches!(parameter, 1 | 2),
-        0x02 => parameter == 1,
-        0x08 | 0x10 => parameter == 0,
-        0x20 => matches!(parameter, 1 | 2 | 4 | 8),
-        _ => return Err(Refusal::UnknownCommand),
-    };
-    if !allowed {
+    let parameters = parameters(words[1]).ok_or(Refusal::UnknownCommand)?;
+    if !parameters.contains(&words[2]) {
         return Err(Refusal::UnknownParameter);
     }
     if words[3] != 0 || words[4] != 0 {
@@ -94,22 +111,22 @@ fn check_head(words: &[u16]) -> Result<(), Refusal> {
 /// 6, 7, 8, 11 or 19.
 pub fn write(command: &Command, out: &mut [u16]) -> Result<usize, Refusal> {
     let (id, parameter, data_words) = match *command {
-        Command::Read(ReadBlock::Static) => (0x01, 1, 0),
-        Command::Read(ReadBlock::Dynamic) => (0x01, 2, 0),
+        Command::Read(ReadBlock::Static) => (READ, 1, 0),
+        Command::Read(ReadBlock::Dynamic) => (READ, 2, 0),
         Command::Write(block) => {
             configuration::check(block)?;
-            (0x02, 1, configuration::WORDS)
+            (WRITE, 1, configuration::WORDS)
         }
-        Command::Start(Events::Endless) => (0x04, 1, 0),
+        Command::Start(Events::Endless) => (START, 1, 0),
         Command::Start(Events::Counted(0)) => return Err(Refusal::NoEvents),
-        Command::Start(Events::Counted(_)) => (0x04, 2, 2),
-        Command::Stop => (0x08, 0, 0),
-        Command::Ping => (0x10, 0, 0),
+        Command::Start(Events::Counted(_)) => (START, 2, EVENTS),
+        Command::Stop => (STOP, 0, 0),
+        Command::Ping => (PING, 0, 0),
         Command::Reset(crate_number) => {
             if crate_number > 3 {
                 return Err(Refusal::NoSuchCrate);
             }
-            (0x20, 1 << crate_number, 0)
+            (RESET, 1 << crate_number, 0)
         }
     };
     let used = HEAD + data_words;

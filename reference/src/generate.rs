@@ -14,15 +14,17 @@ use crate::replay::{push_bytes, push_words, Replay, MAX_DIGITS};
 use crate::{BOARDS, BOARDS_PER_CRATE, CRATES, ID_LIMIT};
 
 mod between;
+mod explanations;
 mod far_end;
 mod rates;
 
 pub use between::{between, Interleaved, Part};
+pub use explanations::explained;
 
 /// Scripts compared where no other number is asked for.
-pub const SCRIPTS: usize = 4000;
+pub const SCRIPTS: usize = 4400;
 /// Scripts of a group: two sessions and one of each other family.
-const GROUP: usize = 10;
+const GROUP: usize = 11;
 
 /// The splitmix64 random number generator.
 pub struct Random(u64);
@@ -561,6 +563,7 @@ pub fn script(seed: u64, number: usize) -> Generated {
         6 => ("rates", group, rates::scripts),
         7 => ("runs", group, runs),
         8 => ("resets", group, resets),
+        9 => ("explanations", group, explanations::scripts),
         _ => ("far end", group, far_end::scripts),
     };
     Generated { family, index, text: make(&mut random, index) }
@@ -617,14 +620,13 @@ fn lengths(random: &mut Random, index: usize) -> Vec<u8> {
     script.text
 }
 
-/// A valid command cut at, and extended to, the lengths `part` stands for.
-fn command_lengths(random: &mut Random, script: &mut Script, part: usize) {
-    let block = random_block(random);
-    let events = random.choose(&[1, 2, 70_000, 0xFFFF_FFFF, 0x0001_0000]);
-    let kinds = [
+/// Every command that there is, with this block.
+fn all_commands<'a>(random: &mut Random, block: &'a [u16]) -> [Command<'a>; 11] {
+    let events = random.choose(&[1, 2, 0xFFFF, 0x0001_0000, 70_000, u32::MAX]);
+    [
         Command::Read(ReadBlock::Static),
         Command::Read(ReadBlock::Dynamic),
-        Command::Write(&block),
+        Command::Write(block),
         Command::Start(Events::Endless),
         Command::Start(Events::Counted(events)),
         Command::Stop,
@@ -633,7 +635,13 @@ fn command_lengths(random: &mut Random, script: &mut Script, part: usize) {
         Command::Reset(1),
         Command::Reset(2),
         Command::Reset(3),
-    ];
+    ]
+}
+
+/// A valid command cut at, and extended to, the lengths `part` stands for.
+fn command_lengths(random: &mut Random, script: &mut Script, part: usize) {
+    let block = random_block(random);
+    let kinds = all_commands(random, &block);
     let command = &kinds[part % kinds.len()];
     let stride = 10;
     let mut whole = [0u16; 460];
@@ -702,7 +710,7 @@ fn digit_counts(random: &mut Random, script: &mut Script, part: usize) {
             .map(|_| if zero { b'0' } else { random.choose(b"0123456789abcdefABCDEF") })
             .collect()
     };
-    for letter in *b"GPKTFNMSLDCRBWXY" {
+    for letter in *b"GPKTFNMSLDCERBWXY" {
         for count in 0..=48 {
             let line = [&[letter][..], &digits(count, (count + part).is_multiple_of(2))].concat();
             script.push(&line);
@@ -713,7 +721,7 @@ fn digit_counts(random: &mut Random, script: &mut Script, part: usize) {
     }
     let longest = MAX_DIGITS;
     for letter in b'A'..=b'Z' {
-        if usize::from(letter) % 4 != part % 4 && !b"CDRX".contains(&letter) {
+        if usize::from(letter) % 4 != part % 4 && !b"CDERX".contains(&letter) {
             continue;
         }
         for count in
@@ -902,7 +910,7 @@ fn sessions(random: &mut Random, _index: usize) -> Vec<u8> {
     }
     for _ in 0..100 + random.below(200) {
         let line = session_line(random, &script);
-        script.push_styled(random, &line);
+        explanations::push_explained(random, &mut script, &line);
         if script.in_pass() && random.chance(3) {
             script.run_out();
         }
@@ -915,14 +923,14 @@ fn session_line(random: &mut Random, script: &Script) -> Vec<u8> {
     let board = script.board();
     let Mode { run, pass } = board.mode();
     // power-up, command, clock, trigger, reply, time-up, frame, number,
-    // static, list, message, dynamic, far end, rate pass
+    // static, list, message, dynamic, far end, rate pass, explanation
     let weights = match (pass, run) {
-        (None, None) => [4, 60, 8, 6, 3, 3, 3, 4, 3, 5, 8, 4, 35, 8],
-        (None, Some(_)) => [1, 25, 12, 50, 2, 2, 1, 2, 3, 3, 4, 5, 35, 6],
-        (Some(PassKind::Reprogramming), _) => [1, 12, 3, 2, 60, 14, 8, 8, 2, 2, 3, 2, 35, 2],
-        (Some(PassKind::Ping), _) => [2, 12, 3, 2, 70, 16, 8, 8, 2, 2, 3, 2, 35, 2],
-        (Some(PassKind::Rates), None) => [1, 12, 4, 4, 50, 12, 6, 6, 2, 2, 3, 4, 30, 3],
-        (Some(PassKind::Rates), Some(_)) => [1, 12, 8, 25, 50, 12, 6, 6, 2, 2, 3, 4, 30, 3],
+        (None, None) => [4, 60, 8, 6, 3, 3, 3, 4, 3, 5, 8, 4, 35, 8, 15],
+        (None, Some(_)) => [1, 25, 12, 50, 2, 2, 1, 2, 3, 3, 4, 5, 35, 6, 10],
+        (Some(PassKind::Reprogramming), _) => [1, 12, 3, 2, 60, 14, 8, 8, 2, 2, 3, 2, 35, 2, 8],
+        (Some(PassKind::Ping), _) => [2, 12, 3, 2, 70, 16, 8, 8, 2, 2, 3, 2, 35, 2, 8],
+        (Some(PassKind::Rates), None) => [1, 12, 4, 4, 50, 12, 6, 6, 2, 2, 3, 4, 30, 3, 8],
+        (Some(PassKind::Rates), Some(_)) => [1, 12, 8, 25, 50, 12, 6, 6, 2, 2, 3, 4, 30, 3, 8],
     };
     match random.weighted(&weights) {
         0 => {
@@ -947,7 +955,8 @@ fn session_line(random: &mut Random, script: &Script) -> Vec<u8> {
         }
         11 => dynamic_line(random),
         12 => far_end::line(random, script),
-        _ => b"B".to_vec(),
+        13 => b"B".to_vec(),
+        _ => explanations::line(random),
     }
 }
 
@@ -1153,6 +1162,7 @@ fn pass_lines(random: &mut Random, script: &mut Script) {
                 8 | 9 => trigger_line(random),
                 10 => dynamic_line(random),
                 11 => b"B".to_vec(),
+                12 | 13 => explanations::line(random),
                 _ => far_end::line(random, script),
             };
             script.push(&other);
@@ -1254,7 +1264,7 @@ fn short_run(random: &mut Random, script: &mut Script, block: &[u16], dynamic: &
 
 /// One line of a run.
 fn run_line(random: &mut Random, script: &mut Script, dynamic: &[u8]) {
-    match random.below(23) {
+    match random.below(24) {
         0 => script.push(dynamic),
         1 => script.push(b"S"),
         2 => script.push(b"L"),
@@ -1270,6 +1280,10 @@ fn run_line(random: &mut Random, script: &mut Script, dynamic: &[u8]) {
         }
         11 => script.push(b"B"),
         12 if script.in_pass() => pass_line(random, script, 80),
+        13 => {
+            let line = explanations::line(random);
+            explanations::push_explained(random, script, &line);
+        }
         _ => {
             let line = trigger_line(random);
             script.push_styled(random, &line);
@@ -1322,13 +1336,14 @@ fn reset_lines(random: &mut Random, script: &mut Script) {
         let line = reset_line(random);
         script.push_styled(random, &line);
         if random.chance(60) {
-            let line = match random.below(7) {
+            let line = match random.below(8) {
                 0 => b"S".to_vec(),
                 1 => b"L".to_vec(),
                 2 => bytes_line(b'M', &[random.below(2) as u8]),
                 3 => bytes_line(b'N', &[random.below(CRATES) as u8]),
                 4 => bytes_line(b'F', &[random.below(CRATES) as u8]),
                 5 => temperatures_line(random),
+                6 => explanations::line(random),
                 _ => clock_line(random),
             };
             script.push(&line);

@@ -1,5 +1,5 @@
 //! A plain model of the FTM trigger master's controller and of its far end,
-//! written from 01-scope.md, requests b, d and i of 02-change-requests.md and
+//! written from 01-scope.md, requests b, c, d and i of 02-change-requests.md and
 //! the FTM firmware specifications v3.3 alone.
 
 pub mod blocks;
@@ -7,6 +7,7 @@ pub mod board;
 pub mod commands;
 pub mod configuration;
 pub mod crc;
+pub mod explain;
 pub mod frames;
 pub mod generate;
 pub mod other;

@@ -1,5 +1,6 @@
 //! Runs the other replay program, and the model, on whole scripts.
 
+use std::collections::{BTreeMap, BTreeSet};
 use std::io::{self, Read, Write};
 use std::path::Path;
 use std::process::{Command, ExitStatus, Stdio};
@@ -73,6 +74,35 @@ pub fn compare_all(
     compared.into_inner().expect("no thread panicked")
 }
 
+/// How often each answer was seen, by its name.
+pub type Seen = BTreeMap<String, usize>;
+
+/// Adds what was seen in one script.
+pub fn add_seen(seen: &Mutex<Seen>, more: Seen) {
+    let mut seen = seen.lock().expect("no thread panicked");
+    for (name, count) in more {
+        *seen.entry(name).or_default() += count;
+    }
+}
+
+/// False, with a line that says which, if a listed name was never seen or one was
+/// seen that is not listed.
+pub fn check_seen(seen: &Seen, listed: Vec<String>) -> bool {
+    let listed: BTreeSet<String> = listed.into_iter().collect();
+    let missing: Vec<&str> =
+        listed.iter().filter(|&name| !seen.contains_key(name)).map(String::as_str).collect();
+    let unlisted: Vec<&str> =
+        seen.keys().filter(|&name| !listed.contains(name)).map(String::as_str).collect();
+    let mut right = true;
+    for (what, names) in [("never seen", missing), ("seen and not listed", unlisted)] {
+        if !names.is_empty() {
+            println!("{what}: {}", names.join(", "));
+            right = false;
+        }
+    }
+    right
+}
+
 /// Saves a script that differs in the folder `differing` beside this program,
 /// which is under target/reference, and says where.
 pub fn save(name: &str, script: &[u8]) -> String {
@@ -107,6 +137,31 @@ pub fn run(program: &str, script: &[u8]) -> io::Result<(Vec<u8>, ExitStatus)> {
         output.read_to_end(&mut printed)
     })?;
     Ok((printed, child.wait()?))
+}
+
+/// What the other program prints on this script, if it ends well.
+pub fn run_other(program: &str, script: &[u8]) -> Result<Vec<u8>, String> {
+    let (printed, status) =
+        run(program, script).map_err(|error| format!("cannot run {program}: {error}"))?;
+    if !status.success() {
+        return Err(format!("the other program ended with {status}"));
+    }
+    Ok(printed)
+}
+
+/// The first place where two lists of lines differ.
+pub fn difference(what: &str, first: &[&[u8]], second: &[&[u8]]) -> Result<(), String> {
+    for place in 0..first.len().max(second.len()) {
+        if first.get(place) != second.get(place) {
+            return Err(format!(
+                "{what}, line {}: {} and {}",
+                place + 1,
+                shown(first.get(place).copied()),
+                shown(second.get(place).copied())
+            ));
+        }
+    }
+    Ok(())
 }
 
 /// The lines of a text; a last one without a line feed counts.

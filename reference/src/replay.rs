@@ -5,6 +5,7 @@ use std::io::Write;
 use crate::blocks::{self, Kind};
 use crate::board::{Answer, Board, Done, Outcome};
 use crate::commands::{self, Command, Events, ReadBlock};
+use crate::explain::explain;
 use crate::frames::{self, Frame};
 use crate::packets::{self, Trigger};
 use crate::{configuration, Refusal};
@@ -91,6 +92,10 @@ impl Replay {
         match letter {
             b'P' => self.power_up(out),
             b'C' => self.command(out),
+            b'E' => {
+                self.read_words(0);
+                print_text(out, format_args!("{}", explain(&self.board, &self.words)));
+            }
             b'K' => {
                 let ticks = self.number(0, 8) as u32;
                 self.board.clock(ticks);
@@ -311,7 +316,7 @@ impl Replay {
 fn right_count(letter: u8, count: usize) -> bool {
     match letter {
         b'P' => count == 20,
-        b'C' | b'D' => count.is_multiple_of(4),
+        b'C' | b'E' | b'D' => count.is_multiple_of(4),
         b'K' => count == 8,
         b'G' => count == 16,
         b'R' => count >= 2 && count.is_multiple_of(2),
@@ -438,6 +443,34 @@ mod tests {
              C00400004000100000000"
         );
         assert_eq!(run(&run_script), "0 441 write\n0 7 start\n0 0100000010007E\n16\n10 5\n");
+    }
+
+    #[test]
+    fn explanations() {
+        let long = format!("E{}", "0".repeat(4096));
+        let write = format!("C0040 0002 0001 0000 0000 {}", "0000".repeat(436));
+        check_lines(&[
+            ("E", "1 missing 5"),
+            ("E ", "1 missing 5"),
+            ("E 0 0 4 0 0002", "1 missing 3"),
+            ("E00410001000100000000", "2 word 0 is 0041, allowed 0040"),
+            (
+                "E0040 abcd 0001 0000 0000",
+                "3 word 1 is ABCD, allowed 0001 0002 0004 0008 0010 0020",
+            ),
+            (&long, "2 word 0 is 0000, allowed 0040"),
+            (&format!("{long}0000"), "?"),
+            ("E004", "?"),
+            ("E00400", "?"),
+            ("E0040x000", "?"),
+            ("e0040", "?"),
+            (&write.replacen('C', "E", 1), "0 accepted"),
+            ("E00400004000100000000", "10 nothing written"),
+            (&write, "0 441 write"),
+            ("E00400004000100000000 0040", "0 accepted"),
+            ("C00400004000100000000", "0 5 start"),
+            ("E00400004000100000000", "9 running"),
+        ]);
     }
 
     /// The digits of the frame to a board whose words are zero.

@@ -53,7 +53,7 @@ pinged β =
 abbrev pub carriedOut : Board → List ℕ → Command → Board
 carriedOut β block (Read kind) = β
 carriedOut β block Write = written β block
-carriedOut β block (Start run) = withRun β (started run)
+carriedOut β block (Start run) = withRun β (started (β .run) run)
 carriedOut β block Stop = withRun β (stopped (β .run))
 carriedOut β block Ping = pinged β
 carriedOut β block (CrateReset c) = withRun β (afterCrateReset (β .run))

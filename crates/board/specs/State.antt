@@ -8,7 +8,7 @@ use lib.ListN.{replicate}
 use Rattle.refusals.specs.Tables.{Answer, given, refused, Rule, rule, lowest, refusalMeaning}
 use Rattle.numbers.specs.Numbers.{idLimit}
 use Rattle.configuration.specs.Configuration.{activeWord}
-use Rattle.run.specs.Run.{isRunning, atPowerUp}
+use Rattle.run.specs.Run.{isRunning, isFresh, atPowerUp}
 use Rattle.run.specs.declared.Run.{Run}
 use Rattle.crate_pass.specs.Crate.{crateAtPowerUp, isRatePass}
 use Rattle.crate_pass.specs.declared.PassKind.the-variants.{Reprogramming}
@@ -35,7 +35,7 @@ isIdle β = not (isRunning (β .run)) && not (inPass (β .crates))
 
 -- what the state is to a command
 abbrev pub statusOf : Board → Status
-statusOf β = record { idle = isIdle β; running = isRunning (β .run); fresh = β .run .fresh }
+statusOf β = record { idle = isIdle β; running = isRunning (β .run); fresh = isFresh (β .run .freshness) }
 
 -- 02, i: "the rates of the last finished rate pass": those of the crates; while a rate pass is under way, which is not finished, those of the one before
 unfoldable pub finishedRates : Board → List ℕ

@@ -10,8 +10,10 @@ ghost use Rattle.acceptance.specs.Acceptance.{answerMeaning};
 ghost use Rattle.run.specs.Run.{refreshed};
 ghost use Rattle.crate_pass.specs.declared.PassKind.the-variants.{Reprogramming, Ping};
 ghost use Rattle.four_crates.specs.FourCrates.{sentMeaning};
+ghost use Rattle.explanations.specs.Explaining.{Explains};
 ghost use Rattle.board.specs.State.{activeWords, isIdle, statusOf, finishedRates, withRun, freshBoard, PowersUp};
 ghost use Rattle.board.specs.Commands.{written, pinged, afterCommand, Obeys, TriggersOn, afterClockStep};
+ghost use Rattle.board.specs.Explaining.{presentOf, explainedOn};
 ghost use Rattle.board.specs.SlowControl.{judgedAt, Replies, Fetches, sentAnswer};
 ghost use Rattle.board.specs.RatePass.{ratesBegun, Begins};
 ghost use Rattle.board.specs.SentOut.{headerOf, SendsStatic, SendsDynamic, SendsList, SendsFailure};
@@ -29,6 +31,10 @@ use crate_pass::PassKind;
 use crate_pass::ReplyAnswer;
 use crate_pass::crate_at_power_up;
 use crate_pass::is_rate_pass;
+use explanations::Explanation;
+use explanations::Present;
+use explanations::activity_of;
+use explanations::explain;
 use four_crates::FirstStep;
 use four_crates::FramesSent;
 use four_crates::RecordFound;
@@ -236,10 +242,12 @@ impl Board {
         ensures { λ r. ⌜ r ≡ statusOf self ⌝ }
     {
         let run = self.run;
+        let freshness = run.freshness;
+        let fresh = freshness.is_fresh();
         Status {
             idle: self.is_idle(),
             running: run.is_running(),
-            fresh: run.fresh,
+            fresh,
         }
     }
 
@@ -312,6 +320,27 @@ impl Board {
             answer,
             used,
         }
+    }
+
+    // What the state is to an explanation.
+    fn present(self) -> Present
+        ensures { λ r. ⌜ r ≡ presentOf self ⌝ }
+    {
+        let run = self.run;
+        let crates = self.crates;
+        let kind = self.kind;
+        let freshness = run.freshness;
+        Present {
+            activity: activity_of(run.is_running(), in_pass(crates), kind),
+            freshness,
+        }
+    }
+
+    // Why the first command of the words would be accepted or refused; nothing is obeyed.
+    pub fn explain(self, words: &[u16]) -> Explanation
+        ensures { λ r. ⌜ Explains (explainedOn self (now (words .entry))) r ⌝ }
+    {
+        explain(words, self.present())
     }
 
     // A clock step.

@@ -13,8 +13,8 @@ use Rattle.texts.specs.Texts.{Printed, question, responseMeaning}
 use Rattle.texts.specs.declared.Response.{Response}
 use Rattle.script.specs.Forms.{oneByte, noByte, anyWords, Row, found}
 use Rattle.far_end.specs.FarEnd.{readPacket, commandFrom, blockFrom}
-use Rattle.exchange.specs.Orders.{Order, otherForm, command, timeUp, beginRates, firstFrame, framesSent, static, ftuList, failure, dynamic, farEnd}
-use Rattle.exchange.specs.Orders.{replyFrom, powerUpOrder, clockOrder, triggerOrder, letters, orderOf}
+use Rattle.exchange.specs.Orders.{Order, otherForm, command, timeUp, beginRates, firstFrame, framesSent, static, ftuList, failure, dynamic}
+use Rattle.exchange.specs.Orders.{explain, farEnd, replyFrom, powerUpOrder, clockOrder, triggerOrder, letters, orderOf}
 use Rattle.exchange.specs.Exchange.{printedAnswer, boardAfterOrder}
 use Rattle.exchange.specs.CodeShape.{boardOrder, askedBy, Answers, AnswersInBytes, AnswersBoth}
 use Rattle.exchange.specs.declared.Answered.{Answered}
@@ -122,7 +122,7 @@ module _ (letter : ℕ) (b : List ℕ) where
         let e : askedBy letter b ≡ boardOrder letter b = only-asked p c k g r t n in
         record { response = h ∙ ap (printedAnswer β) e; board = sym asked-keeps ∙ ap (boardAfterOrder β) e }
 
--- ---- the far end's letters
+-- ---- the far end's letters, and `E`
 
 -- rows at the end that do not have the key
 more-rows : (rs more : List (Row Order)) (key : ℕ) (b : List ℕ) → found otherForm more key b ≡ otherForm
@@ -143,9 +143,13 @@ module _ (letter : ℕ) (b : List ℕ) where
   unfolding orderOf
   far-Y e = rw e
 
-  pub on-board : (letter ≡ 87 → ⊥) → (letter ≡ 88 → ⊥) → (letter ≡ 89 → ⊥) → boardOrder letter b ≡ orderOf letter b
+  pub explains-E : letter ≡ 69 → anyWords otherForm explain b ≡ orderOf letter b
+  unfolding orderOf
+  explains-E e = rw e
+
+  pub on-board : (letter ≡ 87 → ⊥) → (letter ≡ 88 → ⊥) → (letter ≡ 89 → ⊥) → (letter ≡ 69 → ⊥) → boardOrder letter b ≡ orderOf letter b
   unfolding boardOrder orderOf
-  on-board w x y = more-rows (take 13 letters) (drop 13 letters) letter b (simp (ne-eqb _ _ w, ne-eqb _ _ x, ne-eqb _ _ y))
+  on-board w x y e = more-rows (take 13 letters) (drop 13 letters) letter b (simp (ne-eqb _ _ e, ne-eqb _ _ w, ne-eqb _ _ x, ne-eqb _ _ y))
 
 -- ---- a letter's order, answered
 

@@ -2,5 +2,6 @@
 pub mod Asking
 pub mod Fields
 pub mod Changing
+pub mod Explaining
 pub mod Letters
 pub mod Lines

@@ -15,7 +15,7 @@ use Rattle.exchange.specs.Exchange.{printedAnswer, boardAfterOrder}
 use Rattle.exchange.specs.declared.Answered.{Answered}
 use Rattle.exchange.specs.declared.ServedLine.{ServedLine}
 
--- the letters of the board alone, the first thirteen; and of these, those that only ask, the last six
+-- the board's letters that a response answers, the first thirteen, `E` coming after them; and of these, those that only ask, the last six
 unfoldable pub boardOrder : ℕ → List ℕ → Order
 boardOrder letter b = found otherForm (take 13 letters) letter b
 

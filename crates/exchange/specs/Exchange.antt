@@ -14,16 +14,17 @@ use Rattle.crate_pass.specs.Crate.{frameDue}
 use Rattle.run.specs.Run.{triggerNumber, triggerRules, afterAnswer}
 use Rattle.board.specs.State.{freshBoard, withRun, powerUpAnswer}
 use Rattle.board.specs.Commands.{boardAnswer, boardAfter, afterClockStep}
+use Rattle.board.specs.Explaining.{explainedOn}
 use Rattle.board.specs.SlowControl.{frameAt, judgedAt, movedAt, replyAnswer, boardReplied, fetchRules, sentAnswer}
 use Rattle.board.specs.RatePass.{beginAnswer, boardBegun}
 use Rattle.board.specs.SentOut.{headerOf, dynamicBodyOf, listRules, listOf, failureRules, failureBodyOf}
 use Rattle.board.specs.declared.Board.{Board}
 use Rattle.script.specs.Script.{Line, passedOver, order, malformed}
-use Rattle.texts.specs.Texts.{Printed, question, numbers, inBytes, inWords, textOf, inFront}
+use Rattle.texts.specs.Texts.{Printed, question, numbers, inBytes, inWords, explanation, textOf, inFront}
 use Rattle.responses.specs.Responses.{refusalPrinted, commandPrinted, outcomePrinted, duePrinted}
 use Rattle.far_end.specs.FarEnd.{farEndPrinted}
 use Rattle.exchange.specs.Orders.{Order, powerUp, command, clockStep, trigger, reply, timeUp, beginRates, firstFrame, framesSent}
-use Rattle.exchange.specs.Orders.{static, ftuList, failure, dynamic, farEnd, otherForm, orderOf}
+use Rattle.exchange.specs.Orders.{static, ftuList, failure, dynamic, explain, farEnd, otherForm, orderOf}
 use Rattle.exchange.specs.declared.ServedLine.{ServedLine}
 
 -- ---- what is printed
@@ -65,6 +66,7 @@ printedAnswer β static = blockPrinted β (staticRules (β .block)) (β .block)
 printedAnswer β ftuList = blockPrinted β (listRules β) (listBody (listOf β))
 printedAnswer β (failure n) = blockPrinted β (failureRules β n) (failureBodyOf β n)
 printedAnswer β (dynamic t) = blockPrinted β (temperatureRules t) (dynamicBodyOf β t)
+printedAnswer β (explain w) = explanation (explainedOn β w)
 printedAnswer β (farEnd o) = farEndPrinted o
 printedAnswer β otherForm = question
 
@@ -92,6 +94,7 @@ boardAfterOrder β static = β
 boardAfterOrder β ftuList = β
 boardAfterOrder β (failure n) = β
 boardAfterOrder β (dynamic t) = β
+boardAfterOrder β (explain w) = β
 boardAfterOrder β (farEnd o) = β
 boardAfterOrder β otherForm = β
 

@@ -25,6 +25,7 @@ pub data Order : Type 0 where
   ftuList : Order
   failure : ℕ → Order
   dynamic : List ℕ → Order
+  explain : List ℕ → Order
   farEnd : FarEndOrder → Order
   otherForm : Order
 
@@ -89,6 +90,7 @@ letters =
     ∷ row "L" (noByte otherForm ftuList)
     ∷ row "M" (oneByte otherForm failure)
     ∷ row "D" (anyWords otherForm dynamic)
+    ∷ row "E" (anyWords otherForm explain)
     ∷ row "W" (λ b. farEnd (commandFrom b))
     ∷ row "X" (λ b. farEnd (readPacket b))
     ∷ row "Y" (λ b. farEnd (blockFrom b))

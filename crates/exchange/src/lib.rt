@@ -8,7 +8,7 @@ ghost use Rattle.texts.specs.Texts.{responseMeaning};
 ghost use Rattle.responses.specs.Responses.{Prints};
 ghost use Rattle.responses.specs.CodeShape.{PrintsInBytes, PrintsInWords};
 ghost use Rattle.script.specs.Forms.{oneByte, noByte, anyWords};
-ghost use Rattle.exchange.specs.Orders.{command, timeUp, beginRates, firstFrame, framesSent, static, ftuList, failure, dynamic, otherForm};
+ghost use Rattle.exchange.specs.Orders.{command, timeUp, beginRates, firstFrame, framesSent, static, ftuList, failure, dynamic, explain, otherForm};
 ghost use Rattle.exchange.specs.Orders.{areFlags, areFields, fieldsFrom, powerUpOrder, clockOrder, triggerOrder, replyFrom};
 ghost use Rattle.exchange.specs.Exchange.{printedAnswer, ServesLine};
 ghost use Rattle.exchange.specs.CodeShape.{boardOrder, askedBy, eventOrder, Answers, AnswersInBytes, AnswersBoth, ServesOrder};
@@ -32,6 +32,7 @@ use script::Form;
 use script::Reading;
 use steps::Event;
 use texts::Response;
+use texts::write_explanation;
 use texts::write_response;
 use words::words_from_bytes;
 
@@ -382,6 +383,24 @@ fn serve_on_board(board: Board, letter: u8, bytes: &[u8], text: &mut [u8; 2560])
     }
 }
 
+// E: why the first command of the words would be accepted or refused.
+fn explain_order(board: Board, bytes: &[u8], text: &mut [u8; 2560]) -> ServedLine
+    requires { ⌜ length (now bytes) ≤ 2048 ⌝ }
+    ensures { λ r. ⌜ ServesOrder board (anyWords otherForm explain (now (bytes .entry))) (now (text .entry)) r (now (text .exit)) ⌝ }
+{
+    if bytes.len() % 2 != 0 {
+        return question(board, text);
+    }
+    let mut words = [0u16; 1024];
+    words_from_bytes(bytes, &mut words);
+    let count = bytes.len() / 2;
+    let explanation = board.explain(&words[..count]);
+    ServedLine {
+        length: write_explanation(explanation, text),
+        board,
+    }
+}
+
 // An order, by its letter: the far end's three do not reach the board.
 fn serve_letter(board: Board, letter: u8, bytes: &[u8], text: &mut [u8; 2560]) -> ServedLine
     requires { ⌜ length (now bytes) ≤ 2048 ⌝ }
@@ -400,6 +419,7 @@ fn serve_letter(board: Board, letter: u8, bytes: &[u8], text: &mut [u8; 2560]) -
             length: serve_block(bytes, text),
             board,
         },
+        b'E' => explain_order(board, bytes, text),
         _ => serve_on_board(board, letter, bytes, text),
     }
 }

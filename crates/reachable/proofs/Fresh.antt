@@ -3,7 +3,7 @@
 -- Assumes nothing.
 use Prim.Native.Nat.{ℕ}
 use mathlib.Core.Path.{_≡_, refl, sym, ap, _∙_, subst}
-use mathlib.Core.Bool.{Bool, true, false, cond}
+use mathlib.Core.Bool.{Bool, true, false}
 use mathlib.Core.List.{List}
 use Rattle.refusals.specs.Tables.{Answer, given, refused}
 use Rattle.commands.specs.Commands as commands
@@ -12,17 +12,19 @@ use Rattle.commands.specs.declared.Command.the-variants.{Read, Write, Start, St
 use Rattle.command_reader.specs.Reading.{blockOf}
 use Rattle.acceptance.proofs.Deciding.{by-state}
 use Rattle.round_trips.proofs.Blocks.{static-back}
-use Rattle.run.specs.Run.{stopped, clockedRun, triggerNumber, isLast, counted, afterTrigger, afterAnswer, triggerAnswer}
-use Rattle.run.specs.declared.Run.{Run}
+use Rattle.run.specs.Run.{isFresh, usedBy}
+use Rattle.run.specs.declared.Freshness.{Freshness}
+use Rattle.run.specs.declared.Freshness.the-variants.{NeverWritten, Fresh, UsedByRun, UsedByReset}
 use Rattle.board.specs.State.{withRun, statusOf}
-use Rattle.board.specs.Commands.{boardAnswer, written, pinged, afterCommand, boardAfter}
+use Rattle.board.specs.Commands.{boardAnswer, written, afterCommand, boardAfter}
 use Rattle.board.specs.SentOut.{headerOf}
-use Rattle.board.specs.RatePass.{beginAnswer}
 use Rattle.board.specs.declared.Board.{Board}
 use Rattle.reachable.specs.Calls.{Call, command, clockStep, trigger, handIn, beginRates, afterCall, afterAll}
 use Rattle.reachable.specs.Calls.{startOrReset, accepted, noneGets, noWrite, noStartOrReset}
+use Rattle.reachable.specs.Why.{whereAccepted, acceptedBy}
 use Rattle.reachable.specs.Fresh.{StaticReadsBack, NeedsWrite, NeedsNoWrite}
-use Rattle.reachable.proofs.OneCall.{false≢true, Free, kept-by-calls, replied-run, begun-run}
+use Rattle.reachable.proofs.OneCall.{false≢true, Free, kept-by-calls}
+use Rattle.reachable.proofs.Freshness.{usedAfter, after-call}
 use Rattle.reachable.proofs.Kept.{calls-keep, block-kept}
 
 -- ---- fresh stays as it is, set or not, through calls among which no command is accepted that changes it
@@ -32,43 +34,44 @@ abbrev changes : Bool → Command → Bool
 changes true c = startOrReset c
 changes false c = commands.isWrite c
 
-command-fresh : (b : Bool) (β : Board) (block : List ℕ) (a : Answer Command) → accepted (changes b) a ≡ false → β .run .fresh ≡ b
-    → afterCommand β block a .run .fresh ≡ b
-unfolding withRun written pinged
-command-fresh b β block (given (Read kind)) e f = f
-command-fresh true β block (given Write) e f = refl
-command-fresh false β block (given Write) e f = false≢true (sym e)
-command-fresh true β block (given (Start run)) e f = false≢true (sym e)
-command-fresh false β block (given (Start run)) e f = refl
-command-fresh b β block (given Stop) e f = f
-command-fresh b β block (given Ping) e f = f
-command-fresh true β block (given (CrateReset c)) e f = false≢true (sym e)
-command-fresh false β block (given (CrateReset c)) e f = refl
-command-fresh b β block (refused n p) e f = f
+-- what is used up is not fresh, whatever it was
+used-up : (f : Freshness) → (isFresh (usedBy UsedByRun f) ≡ false) × (isFresh (usedBy UsedByReset f) ≡ false)
+used-up NeverWritten = (refl, refl)
+used-up Fresh = (refl, refl)
+used-up UsedByRun = (refl, refl)
+used-up UsedByReset = (refl, refl)
 
-trigger-fresh : (r : Run) (a : Answer ℕ) → afterAnswer r a .fresh ≡ r .fresh
-unfolding afterTrigger
-trigger-fresh r (given n) = go (isLast (r .running) (triggerNumber r))
+command-fresh : (b : Bool) (a : Answer Command) (f : Freshness) → accepted (changes b) a ≡ false → isFresh f ≡ b → isFresh (usedAfter (whereAccepted a) f) ≡ b
+command-fresh b (given (Read kind)) f e h = h
+command-fresh true (given Write) f e h = refl
+command-fresh false (given Write) f e h = false≢true (sym e)
+command-fresh true (given (Start run)) f e h = false≢true (sym e)
+command-fresh false (given (Start run)) f e h = used-up f .0
+command-fresh b (given Stop) f e h = h
+command-fresh b (given Ping) f e h = h
+command-fresh true (given (CrateReset c)) f e h = false≢true (sym e)
+command-fresh false (given (CrateReset c)) f e h = used-up f .1
+command-fresh b (refused n p) f e h = h
+
+abbrev boardFresh : Board → Bool
+boardFresh β = isFresh (β .run .freshness)
+
+call-fresh : (b : Bool) (β : Board) (x : Call) → Free (accepted (changes b)) false β x → boardFresh β ≡ b → boardFresh (afterCall β x) ≡ b
+call-fresh b β x free h = ap isFresh (after-call β x) ∙ go x free
   where
-    go : (t : Bool) → cond t (stopped r) (counted r) .fresh ≡ r .fresh
-    go true = refl
-    go false = refl
-trigger-fresh r (refused n p) = refl
+    go : (y : Call) → Free (accepted (changes b)) false β y → isFresh (usedAfter (acceptedBy β y) (β .run .freshness)) ≡ b
+    go (command words) free = command-fresh b (boardAnswer β words) (β .run .freshness) free h
+    go (clockStep ticks) free = h
+    go (trigger fields out) free = h
+    go (handIn c event out) free = h
+    go beginRates free = h
 
-call-fresh : (b : Bool) (β : Board) (x : Call) → Free (accepted (changes b)) false β x → β .run .fresh ≡ b → afterCall β x .run .fresh ≡ b
-unfolding afterCall withRun clockedRun
-call-fresh b β (command words) free f = command-fresh b β (blockOf words) (boardAnswer β words) free f
-call-fresh b β (clockStep ticks) free f = f
-call-fresh b β (trigger fields out) free f = trigger-fresh (β .run) (triggerAnswer (β .run) fields out) ∙ f
-call-fresh b β (handIn c event out) free f = ap (λ (r : Run). r .fresh) (replied-run β c _ out) ∙ f
-call-fresh b β beginRates free f = ap (λ (r : Run). r .fresh) (begun-run β (beginAnswer β)) ∙ f
-
-calls-fresh : (b : Bool) (β : Board) (xs : List Call) → noneGets (accepted (changes b)) false β xs ≡ true → β .run .fresh ≡ b → afterAll β xs .run .fresh ≡ b
-calls-fresh b β xs e f = kept-by-calls (accepted (changes b)) false (λ (γ : Board). γ .run .fresh ≡ b) (call-fresh b) β xs e f
+calls-fresh : (b : Bool) (β : Board) (xs : List Call) → noneGets (accepted (changes b)) false β xs ≡ true → boardFresh β ≡ b → boardFresh (afterAll β xs) ≡ b
+calls-fresh b β xs e f = kept-by-calls (accepted (changes b)) false (λ (γ : Board). boardFresh γ ≡ b) (call-fresh b) β xs e f
 
 -- ---- so a start gets 10, or is accepted
 
-needs-write : (β : Board) (stored : List ℕ) → β .run .fresh ≡ false → β .block ≡ stored → NeedsWrite stored β
+needs-write : (β : Board) (stored : List ℕ) → boardFresh β ≡ false → β .block ≡ stored → NeedsWrite stored β
 needs-write β stored f k =
     record {
       not-fresh = f;
@@ -77,7 +80,7 @@ needs-write β stored f k =
       reads = subst (StaticReadsBack β) k (λ out after n sent. static-back (headerOf β) out n after (β .block) sent);
     }
 
-needs-no-write : (β : Board) → β .run .fresh ≡ true → NeedsNoWrite β
+needs-no-write : (β : Board) → boardFresh β ≡ true → NeedsNoWrite β
 needs-no-write β f = record { fresh = f; start = λ idle w l n e r o. o .answer ∙ by-state w (statusOf β) (Start l) n e ∙ rw (idle, f) refl }
 
 -- ---- after a crate reset
@@ -90,7 +93,7 @@ module _ (β : Board) (w : List ℕ) (c : ℕ) (e : boardAnswer β w ≡ given (
   unfolding withRun
   reset-needs-write =
       needs-write (afterAll (boardAfter β w) xs) (β .block)
-      (calls-fresh false (boardAfter β w) xs free (ap (λ (γ : Board). γ .run .fresh) after-reset))
+      (calls-fresh false (boardAfter β w) xs free (ap boardFresh after-reset ∙ used-up (β .run .freshness) .1))
       (calls-keep (boardAfter β w) xs free ∙ ap (λ (γ : Board). γ .block) after-reset)
 
 -- ---- after a write, from which calls lead to the state `now`
@@ -109,4 +112,4 @@ module _ (β : Board) (v : List ℕ) (e : boardAnswer β v ≡ given Write) (ys 
   pub write-stays-fresh : noStartOrReset (boardAfter β v) ys ≡ true → NeedsNoWrite now
   unfolding written
   write-stays-fresh free =
-      needs-no-write now (calls-fresh true (boardAfter β v) ys free (ap (λ (a : Answer Command). afterCommand β (blockOf v) a .run .fresh) e))
+      needs-no-write now (calls-fresh true (boardAfter β v) ys free (ap (λ (a : Answer Command). boardFresh (afterCommand β (blockOf v) a)) e))

@@ -14,8 +14,10 @@ pub mod RunNumbers
 pub mod PassStays
 pub mod PartStays
 pub mod ListStays
+pub mod Freshness
 pub mod Fresh
 pub mod FirstFrame
 pub mod RatesStay
 pub mod Between
 pub mod BetweenCalls
+pub mod Why

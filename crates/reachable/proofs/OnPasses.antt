@@ -19,7 +19,8 @@ use Rattle.steps.specs.declared.Judged.{Judged}
 use Rattle.steps.proofs.Carried.{ping-below, rates-below}
 use Rattle.run.specs.Run.{isRunning}
 use Rattle.run.specs.Invariant.{RunInvariant}
-use Rattle.run.proofs.Invariant.{sound-fresh}
+use Rattle.run.specs.declared.Freshness.the-variants.{Fresh}
+use Rattle.run.proofs.Invariant.{sound-freshness}
 use Rattle.crate_pass.specs.Crate.{isDone, isRatePass, servedAnswer}
 use Rattle.crate_pass.specs.Invariant.{CrateInvariant}
 use Rattle.crate_pass.specs.declared.PassKind.{PassKind}
@@ -107,7 +108,7 @@ holds-write β w e h =
     let k = h .reaches in
     holds-begun β (written β (blockOf w)) h refl (begun-write β w e)
     (record {
-      run = sound-fresh (β .run) true (k .run);
+      run = sound-freshness (β .run) Fresh (k .run);
       length-block = block-length β w e;
       within = block-within β w e;
       active = k .active;

@@ -11,7 +11,7 @@ use Rattle.commands.specs.declared.RunLength.{RunLength}
 use Rattle.run.specs.Run.{isRunning, started, stopped, afterCrateReset, clockedRun, triggerAnswer, afterTrigger, afterAnswer}
 use Rattle.run.specs.Invariant.{RunInvariant}
 use Rattle.run.specs.declared.Run.{Run}
-use Rattle.run.proofs.Invariant.{sound-started, sound-stopped, sound-fresh, sound-clocked, sound-triggered}
+use Rattle.run.proofs.Invariant.{sound-started, sound-stopped, sound-freshness, sound-clocked, sound-triggered}
 use Rattle.crate_pass.specs.Crate.{isRatePass}
 use Rattle.four_crates.specs.FourCrates.{inPass}
 use Rattle.board.specs.State.{withRun, statusOf}
@@ -85,10 +85,10 @@ holds-trigger β f out h = go (triggerAnswer (β .run) f out) refl
 
 -- ---- starts and stops
 
-pub holds-start : (β : Board) (w : List ℕ) (l : RunLength) → boardAnswer β w ≡ given (Start l) → Holds β → Holds (withRun β (started l))
+pub holds-start : (β : Board) (w : List ℕ) (l : RunLength) → boardAnswer β w ≡ given (Start l) → Holds β → Holds (withRun β (started (β .run) l))
 holds-start β w l e h =
-    holds-run β (started l) h (sound-started l (accepted-events β w (Start l) e))
-    (and-false (isRunning (started l)) (inOtherPass β)
+    holds-run β (started (β .run) l) h (sound-started (β .run) l (accepted-events β w (Start l) e))
+    (and-false (isRunning (started (β .run) l)) (inOtherPass β)
     (ap (λ (p : Bool). p && not (isRatePass (β .kind))) (idle-apart (isRunning (β .run)) (inPass (β .crates)) (obeyed-now w (statusOf β) (Start l) e))))
 
 pub holds-stop : (β : Board) → Holds β → Holds (withRun β (stopped (β .run)))
@@ -97,4 +97,4 @@ holds-stop β h = holds-run β (stopped (β .run)) h (sound-stopped (β .run)) r
 -- ---- crate resets
 
 pub holds-reset : (β : Board) → Holds β → Holds (withRun β (afterCrateReset (β .run)))
-holds-reset β h = holds-run β (afterCrateReset (β .run)) h (sound-fresh (β .run) false (h .reaches .run)) (h .reaches .apart)
+holds-reset β h = holds-run β (afterCrateReset (β .run)) h (sound-freshness (β .run) _ (h .reaches .run)) (h .reaches .apart)

@@ -14,6 +14,7 @@ use Rattle.command_reader.specs.Reading.{taken, commandAnswer}
 use Rattle.acceptance.specs.Acceptance.{answerMeaning}
 use Rattle.block_reader.specs.declared.Kind.the-variants.{Static}
 use Rattle.round_trips.specs.Blocks.{asSent, ReadsBack}
+use Rattle.run.specs.Run.{isFresh}
 use Rattle.board.specs.State.{isIdle}
 use Rattle.board.specs.Commands.{Obeys}
 use Rattle.board.specs.SentOut.{headerOf, SendsStatic}
@@ -32,7 +33,7 @@ StaticReadsBack β body = (out after : List ℕ) (n : ℕ) → SendsStatic β ou
 
 -- 02, b: "a start needs a new write. The stored block still reads back"
 pub record NeedsWrite (stored : List ℕ) (β : Board) : Type 0 where
-  pub not-fresh : β .run .fresh ≡ false
+  pub not-fresh : isFresh (β .run .freshness) ≡ false
   -- "a start that is otherwise accepted gets 10"
   pub start : IdleStartGets β (λ l. refused 10 0)
   pub block : β .block ≡ stored
@@ -40,5 +41,5 @@ pub record NeedsWrite (stored : List ℕ) (β : Board) : Type 0 where
 
 -- the counterpart: a start is accepted as soon as the board is idle
 pub record NeedsNoWrite (β : Board) : Type 0 where
-  pub fresh : β .run .fresh ≡ true
+  pub fresh : isFresh (β .run .freshness) ≡ true
   pub start : IdleStartGets β (λ l. given (Start l))

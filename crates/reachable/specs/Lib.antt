@@ -7,3 +7,4 @@ pub mod Between
 pub mod BetweenCalls
 pub mod Fresh
 pub mod FirstFrame
+pub mod Why

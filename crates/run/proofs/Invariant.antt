@@ -12,10 +12,11 @@ use Rattle.commands.specs.declared.Command.the-variants.{Start}
 use Rattle.commands.specs.declared.RunLength.{RunLength}
 use Rattle.commands.specs.declared.RunLength.the-variants.{Endless, Counted}
 use Rattle.packets.specs.declared.Fields.{Fields}
-use Rattle.run.specs.Run.{takesEvents, isRunning, zeroed, atPowerUp, started, stopped, withFresh, clocked, clockedRun}
+use Rattle.run.specs.Run.{takesEvents, isRunning, zeroed, atPowerUp, started, stopped, withFreshness, clocked, clockedRun}
 use Rattle.run.specs.Run.{triggerNumber, triggerAnswer, isLast, counted, afterTrigger, afterAnswer}
 use Rattle.run.specs.declared.Running.{Running}
 use Rattle.run.specs.declared.Running.the-variants.{Stopped}
+use Rattle.run.specs.declared.Freshness.{Freshness}
 use Rattle.run.specs.declared.Run.{Run}
 use Rattle.run.specs.Invariant.{RunInvariant}
 use Rattle.run.proofs.Laws.{accepted-running, room}
@@ -26,8 +27,8 @@ false≢true e = absurd (let z : _≡_ {A = ℕ} 0 1 = cc in omega arith)
 -- ---- the three at zero
 
 -- X, where it is counted to, is not 0
-sound-zeroed : (running : Running) (fresh : Bool) → ((x : ℕ) → running ≡ Running.Counted x → 0 < x) → RunInvariant (zeroed running fresh)
-sound-zeroed running fresh f =
+sound-zeroed : (running : Running) (freshness : Freshness) → ((x : ℕ) → running ≡ Running.Counted x → 0 < x) → RunInvariant (zeroed running freshness)
+sound-zeroed running freshness f =
     record {
       timestamp = omega arith;
       on-time = omega arith;
@@ -37,24 +38,24 @@ sound-zeroed running fresh f =
       fewer = λ x e. let l = f x e in omega arith;
     }
 
-sound-still : (fresh : Bool) → RunInvariant (zeroed Stopped fresh)
-sound-still fresh = sound-zeroed Stopped fresh (λ x e. false≢true (ap takesEvents e))
+sound-still : (freshness : Freshness) → RunInvariant (zeroed Stopped freshness)
+sound-still freshness = sound-zeroed Stopped freshness (λ x e. false≢true (ap takesEvents e))
 
 pub sound-power-up : RunInvariant atPowerUp
-sound-power-up = sound-still false
+sound-power-up = sound-still (atPowerUp .freshness)
 
 pub sound-stopped : (r : Run) → RunInvariant (stopped r)
-sound-stopped r = sound-still (r .fresh)
+sound-stopped r = sound-still (r .freshness)
 
 -- "X is 0" is refused
-pub sound-started : (l : RunLength) → noEvents (Start l) ≡ false → RunInvariant (started l)
-sound-started Endless e = sound-zeroed Running.Endless false (λ x q. absurd (let z : _≡_ {A = ℕ} 0 1 = cc in omega arith))
-sound-started (Counted x) e = sound-zeroed (Running.Counted x) false (λ y q. let n = eqb-false x 0 e in let s : x ≡ y = cc in omega arith)
+pub sound-started : (r : Run) (l : RunLength) → noEvents (Start l) ≡ false → RunInvariant (started r l)
+sound-started r Endless e = sound-zeroed Running.Endless _ (λ x q. absurd (let z : _≡_ {A = ℕ} 0 1 = cc in omega arith))
+sound-started r (Counted x) e = sound-zeroed (Running.Counted x) _ (λ y q. let n = eqb-false x 0 e in let s : x ≡ y = cc in omega arith)
 
 -- ---- writes, crate resets and clock steps
 
-pub sound-fresh : (r : Run) (fresh : Bool) → RunInvariant r → RunInvariant (withFresh r fresh)
-sound-fresh r fresh s =
+pub sound-freshness : (r : Run) (freshness : Freshness) → RunInvariant r → RunInvariant (withFreshness r freshness)
+sound-freshness r freshness s =
     record { timestamp = s .timestamp; on-time = s .on-time; counter = s .counter; zeroed = s .zeroed; together = s .together; fewer = s .fewer }
 
 -- the on-time of a board that is not running stays

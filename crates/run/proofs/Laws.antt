@@ -23,7 +23,7 @@ use Rattle.run.specs.declared.Run.{Run}
 
 -- a run that is r but for its timestamp and on-time
 abbrev pub timed : Run → ℕ → ℕ → Run
-timed r t o = record { running = r .running; fresh = r .fresh; «trigger_counter» = r .«trigger_counter»; timestamp = t; «on_time» = o }
+timed r t o = record { running = r .running; freshness = r .freshness; «trigger_counter» = r .«trigger_counter»; timestamp = t; «on_time» = o }
 
 pub clock-is : (r : Run) (ticks t o : ℕ) → t ≡ clocked (r .timestamp) ticks → o ≡ cond (isRunning r) (clocked (r .«on_time») ticks) (r .«on_time»)
     → timed r t o ≡ clockedRun r ticks
@@ -43,9 +43,10 @@ module _ (r : Run) where
 
   -- the run with one event more, whose `running` the code has read and matched
   pub counted-is : (now : Running) → now ≡ r .running → isLast (r .running) (triggerNumber r) ≡ false
-      → record { running = now; fresh = r .fresh; «trigger_counter» = triggerNumber r; timestamp = r .timestamp; «on_time» = r .«on_time» } ≡ afterTrigger r
+      → record { running = now; freshness = r .freshness; «trigger_counter» = triggerNumber r; timestamp = r .timestamp; «on_time» = r .«on_time» }
+      ≡ afterTrigger r
   counted-is now e h =
-      (λ i. record { running = e i; fresh = r .fresh; «trigger_counter» = triggerNumber r; timestamp = r .timestamp; «on_time» = r .«on_time» })
+      (λ i. record { running = e i; freshness = r .freshness; «trigger_counter» = triggerNumber r; timestamp = r .timestamp; «on_time» = r .«on_time» })
       ∙ sym (after-another h)
 
 -- ---- a trigger

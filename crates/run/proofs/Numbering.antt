@@ -19,12 +19,13 @@ use Rattle.run.proofs.Laws.{after-last}
 -- ---- starts and clock steps
 
 -- 01, Command words: "A start .. sets the trigger counter .. to zero"; Trigger packets: "The first trigger of a run is 1"
-pub start-numbers : (l : RunLength) → (started l .«trigger_counter» ≡ 0) × (triggerNumber (started l) ≡ 1)
-start-numbers l = (refl, refl)
+pub start-numbers : (r : Run) (l : RunLength) → (started r l .«trigger_counter» ≡ 0) × (triggerNumber (started r l) ≡ 1)
+start-numbers r l = (refl, refl)
 
 -- 01, Command words: clock steps add to the timestamp and the on-time, and so to nothing else
 pub clock-keeps : (r : Run) (ticks : ℕ)
-    → (clockedRun r ticks .running ≡ r .running) × (clockedRun r ticks .fresh ≡ r .fresh) × (clockedRun r ticks .«trigger_counter» ≡ r .«trigger_counter»)
+    → (clockedRun r ticks .running ≡ r .running) × (clockedRun r ticks .freshness ≡ r .freshness)
+    × (clockedRun r ticks .«trigger_counter» ≡ r .«trigger_counter»)
 unfolding clockedRun
 clock-keeps r ticks = (refl, refl, refl)
 

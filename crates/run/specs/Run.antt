@@ -1,4 +1,4 @@
--- 01, Command words, and Trigger packets; 02, b: what starts, stops, writes, crate resets, clock steps and triggers make of the run.
+-- 01, Command words, and Trigger packets; 02, b and c: what starts, stops, writes, crate resets, clock steps and triggers make of the run.
 use Prim.Native.Nat.{ℕ, _+_, _%_, _^_}
 use mathlib.Core.Path.{_≡_}
 use mathlib.Core.Bool.{Bool, true, false, not, cond}
@@ -13,6 +13,8 @@ use Rattle.packets.specs.Packets.{inRange, packetBytes}
 use Rattle.packets.specs.declared.Fields.{Fields}
 use Rattle.run.specs.declared.Running.{Running}
 use Rattle.run.specs.declared.Running.the-variants.{Stopped}
+use Rattle.run.specs.declared.Freshness.{Freshness}
+use Rattle.run.specs.declared.Freshness.the-variants.{NeverWritten, Fresh, UsedByRun, UsedByReset}
 use Rattle.run.specs.declared.Run.{Run}
 use Rattle.run.specs.declared.Triggered.{Triggered}
 
@@ -25,13 +27,27 @@ takesEvents (Running.Counted x) = true
 abbrev pub isRunning : Run → Bool
 isRunning r = takesEvents (r .running)
 
--- a run that takes events or not, fresh or not, with the three counters at zero
-abbrev pub zeroed : Running → Bool → Run
-zeroed running fresh = record { running = running; fresh = fresh; «trigger_counter» = 0; timestamp = 0; «on_time» = 0 }
+-- "fresh", as a start needs it
+abbrev pub isFresh : Freshness → Bool
+isFresh NeverWritten = false
+isFresh Fresh = true
+isFresh UsedByRun = false
+isFresh UsedByReset = false
 
--- power-up gives "idle, all words and counters zero, nothing fresh"
+-- 02, c: "a run or reset used it up, whichever came first since the last accepted write": what is fresh is used by it, and what is not stays as it is
+abbrev pub usedBy : Freshness → Freshness → Freshness
+usedBy user NeverWritten = NeverWritten
+usedBy user Fresh = user
+usedBy user UsedByRun = UsedByRun
+usedBy user UsedByReset = UsedByReset
+
+-- a run that takes events or not, fresh or not, with the three counters at zero
+abbrev pub zeroed : Running → Freshness → Run
+zeroed running freshness = record { running = running; freshness = freshness; «trigger_counter» = 0; timestamp = 0; «on_time» = 0 }
+
+-- power-up gives "idle, all words and counters zero, nothing fresh": "nothing was ever written" (02, c)
 abbrev pub atPowerUp : Run
-atPowerUp = zeroed Stopped false
+atPowerUp = zeroed Stopped NeverWritten
 
 -- "1 endless, 2 take X"
 abbrev pub runningFor : RunLength → Running
@@ -39,25 +55,25 @@ runningFor Endless = Running.Endless
 runningFor (Counted x) = Running.Counted x
 
 -- "A start clears fresh, sets the trigger counter, timestamp and on-time to zero and runs"
-abbrev pub started : RunLength → Run
-started l = zeroed (runningFor l) false
+abbrev pub started : Run → RunLength → Run
+started r l = zeroed (runningFor l) (usedBy UsedByRun (r .freshness))
 
 -- "A stop, or the Xth trigger, ends the run and zeroes the same three"
 abbrev pub stopped : Run → Run
-stopped r = zeroed Stopped (r .fresh)
+stopped r = zeroed Stopped (r .freshness)
 
--- the same run, fresh or not
-abbrev pub withFresh : Run → Bool → Run
-withFresh r fresh =
-    record { running = r .running; fresh = fresh; «trigger_counter» = r .«trigger_counter»; timestamp = r .timestamp; «on_time» = r .«on_time» }
+-- the same run, with another freshness
+abbrev pub withFreshness : Run → Freshness → Run
+withFreshness r freshness =
+    record { running = r .running; freshness = freshness; «trigger_counter» = r .«trigger_counter»; timestamp = r .timestamp; «on_time» = r .«on_time» }
 
 -- "A write .. sets fresh"
 abbrev pub refreshed : Run → Run
-refreshed r = withFresh r true
+refreshed r = withFreshness r Fresh
 
 -- 02, b: "an accepted crate reset clears fresh, so that a start needs a new write"
 abbrev pub afterCrateReset : Run → Run
-afterCrateReset r = withFresh r false
+afterCrateReset r = withFreshness r (usedBy UsedByReset (r .freshness))
 
 -- "modulo 2^48"
 abbrev pub clocked : ℕ → ℕ → ℕ
@@ -68,7 +84,7 @@ unfoldable pub clockedRun : Run → ℕ → Run
 clockedRun r ticks =
     record {
       running = r .running;
-      fresh = r .fresh;
+      freshness = r .freshness;
       «trigger_counter» = r .«trigger_counter»;
       timestamp = clocked (r .timestamp) ticks;
       «on_time» = cond (isRunning r) (clocked (r .«on_time») ticks) (r .«on_time»);
@@ -97,7 +113,7 @@ isLast (Running.Counted x) n = eqb n x
 -- the run with one event more
 abbrev pub counted : Run → Run
 counted r =
-    record { running = r .running; fresh = r .fresh; «trigger_counter» = triggerNumber r; timestamp = r .timestamp; «on_time» = r .«on_time» }
+    record { running = r .running; freshness = r .freshness; «trigger_counter» = triggerNumber r; timestamp = r .timestamp; «on_time» = r .«on_time» }
 
 unfoldable pub afterTrigger : Run → Run
 afterTrigger r = cond (isLast (r .running) (triggerNumber r)) (stopped r) (counted r)

@@ -1,7 +1,8 @@
-// The run: whether and how long the board takes events, its three counters, and whether the configuration is fresh.
+// The run: whether and how long the board takes events, its three counters, and whether the configuration is fresh, and if not why.
 ghost use mathlib.Core.Path.{_≡_};
 ghost use Prim.Native.Nat.{_<_};
-ghost use Rattle.run.specs.Run.{isRunning, atPowerUp, started, stopped, withFresh, refreshed, afterCrateReset, clocked, clockedRun};
+ghost use Rattle.run.specs.Run.{isRunning, isFresh, usedBy, atPowerUp, started, stopped, withFreshness, refreshed, afterCrateReset};
+ghost use Rattle.run.specs.Run.{clocked, clockedRun};
 ghost use Rattle.run.specs.Run.{afterTrigger, Gives, Triggers};
 use commands::RunLength;
 use packets::Fields;
@@ -18,10 +19,19 @@ pub enum Running {
     Counted(u32),
 }
 
+// What became of the configuration: no write was ever accepted, or the last one is fresh, or a run or a crate reset used it up, whichever came
+// first.
+pub enum Freshness {
+    NeverWritten,
+    Fresh,
+    UsedByRun,
+    UsedByReset,
+}
+
 pub struct Run {
     pub running: Running,
-    // Set by an accepted write, cleared by a start and by a crate reset.
-    pub fresh: bool,
+    // Fresh from an accepted write on, until a start or a crate reset.
+    pub freshness: Freshness,
     pub trigger_counter: u32,
     // Of 48 bits both, in ticks.
     pub timestamp: u64,
@@ -41,13 +51,38 @@ fn later(counter: u64, ticks: u32) -> u64
     (counter % 281474976710656 + (ticks as u64)) % 281474976710656
 }
 
-// Nothing fresh, stopped, and all counters zero.
+impl Freshness {
+    pub fn is_fresh(self) -> bool
+        ensures { λ r. ⌜ r ≡ isFresh self ⌝ }
+    {
+        match self {
+            Freshness::NeverWritten => false,
+            Freshness::Fresh => true,
+            Freshness::UsedByRun => false,
+            Freshness::UsedByReset => false,
+        }
+    }
+
+    // After a start or a crate reset, which is `user`: only what uses up a fresh configuration is named.
+    fn used_by(self, user: Freshness) -> Freshness
+        ensures { λ r. ⌜ r ≡ usedBy user self ⌝ }
+    {
+        match self {
+            Freshness::NeverWritten => Freshness::NeverWritten,
+            Freshness::Fresh => user,
+            Freshness::UsedByRun => Freshness::UsedByRun,
+            Freshness::UsedByReset => Freshness::UsedByReset,
+        }
+    }
+}
+
+// Nothing written, stopped, and all counters zero.
 pub fn run_at_power_up() -> Run
     ensures { λ r. ⌜ r ≡ atPowerUp ⌝ }
 {
     Run {
         running: Running::Stopped,
-        fresh: false,
+        freshness: Freshness::NeverWritten,
         trigger_counter: 0,
         timestamp: 0,
         on_time: 0,
@@ -66,14 +101,14 @@ impl Run {
         }
     }
 
-    // The same run, fresh or not.
-    fn with_fresh(self, fresh: bool) -> Run
-        ensures { λ r. ⌜ r ≡ withFresh self fresh ⌝ }
+    // The same run, with another freshness.
+    fn with_freshness(self, freshness: Freshness) -> Run
+        ensures { λ r. ⌜ r ≡ withFreshness self freshness ⌝ }
     {
         let running = self.running;
         Run {
             running,
-            fresh,
+            freshness,
             trigger_counter: self.trigger_counter,
             timestamp: self.timestamp,
             on_time: self.on_time,
@@ -84,27 +119,30 @@ impl Run {
     pub fn refresh(self) -> Run
         ensures { λ r. ⌜ r ≡ refreshed self ⌝ }
     {
-        self.with_fresh(true)
+        self.with_freshness(Freshness::Fresh)
     }
 
     // A crate that was reset has lost its settings, so the configuration is no longer fresh (02, b).
     pub fn crate_reset(self) -> Run
         ensures { λ r. ⌜ r ≡ afterCrateReset self ⌝ }
     {
-        self.with_fresh(false)
+        let before = self.freshness;
+        self.with_freshness(before.used_by(Freshness::UsedByReset))
     }
 
     // A start clears fresh and sets the three counters to zero.
     pub fn start(self, length: RunLength) -> Run
-        ensures { λ r. ⌜ r ≡ started length ⌝ }
+        ensures { λ r. ⌜ r ≡ started self length ⌝ }
     {
+        let before = self.freshness;
+        let freshness = before.used_by(Freshness::UsedByRun);
         let running = match length {
             RunLength::Endless => Running::Endless,
             RunLength::Counted(x) => Running::Counted(x),
         };
         Run {
             running,
-            fresh: false,
+            freshness,
             trigger_counter: 0,
             timestamp: 0,
             on_time: 0,
@@ -115,9 +153,10 @@ impl Run {
     pub fn stop(self) -> Run
         ensures { λ r. ⌜ r ≡ stopped self ⌝ }
     {
+        let freshness = self.freshness;
         Run {
             running: Running::Stopped,
-            fresh: self.fresh,
+            freshness,
             trigger_counter: 0,
             timestamp: 0,
             on_time: 0,
@@ -129,6 +168,7 @@ impl Run {
         ensures { λ r. ⌜ r ≡ clockedRun self ticks ⌝ }
     {
         let running = self.running;
+        let freshness = self.freshness;
         let on_time = if self.is_running() {
             later(self.on_time, ticks)
         } else {
@@ -136,7 +176,7 @@ impl Run {
         };
         Run {
             running,
-            fresh: self.fresh,
+            freshness,
             trigger_counter: self.trigger_counter,
             timestamp: later(self.timestamp, ticks),
             on_time,
@@ -149,6 +189,7 @@ impl Run {
         ensures { λ r. ⌜ r ≡ afterTrigger self ⌝ }
     {
         let running = self.running;
+        let freshness = self.freshness;
         let number = self.trigger_counter + 1;
         let last = match running {
             Running::Stopped => false,
@@ -160,7 +201,7 @@ impl Run {
         }
         Run {
             running,
-            fresh: self.fresh,
+            freshness,
             trigger_counter: number,
             timestamp: self.timestamp,
             on_time: self.on_time,

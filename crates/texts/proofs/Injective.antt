@@ -10,7 +10,7 @@ use lib.ListN.{length, getD}
 use lib.Seq.{length-take-le}
 use Rattle.packets.specs.Packets.{bitOf}
 use Rattle.packets.specs.declared.Packet as packet
-use Rattle.texts.specs.Texts.{Printed, question, numbers, done, served, inBytes, inWords, block, responseMeaning}
+use Rattle.texts.specs.Texts.{Printed, question, numbers, done, served, inBytes, inWords, block, explanation, responseMeaning}
 use Rattle.texts.specs.declared.Response.{Response}
 use Rattle.texts.specs.declared.Response.the-variants.{Question, One, Two, Three, Done, Served, Bytes, Words, Packet, Block}
 
@@ -54,7 +54,7 @@ ofNumbers (a ∷ b ∷ []) = Two a b
 ofNumbers (a ∷ b ∷ c ∷ []) = Three a b c
 ofNumbers (a ∷ b ∷ c ∷ d ∷ l) = Packet (packetOf (b ∷ c ∷ d ∷ l))
 
--- the response that prints it
+-- the response that prints it; none prints an explanation
 abbrev responseOf : Printed → Response
 responseOf question = Question
 responseOf (numbers l) = ofNumbers l
@@ -63,6 +63,7 @@ responseOf (served o frame) = Served o
 responseOf (inBytes l) = Bytes (length l)
 responseOf (inWords l) = Words (length l)
 responseOf (block h l) = Block h (length l)
+responseOf (explanation x) = Question
 
 bit-back : (b : Bool) → isSet (bitOf b) ≡ b
 bit-back true = refl

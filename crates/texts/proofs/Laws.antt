@@ -10,8 +10,8 @@ use borrow.Author.Tests.{lt-ltb, le-ltb}
 use lib.ListN.{length, take, drop, set, getD, length-append}
 use lib.Seq.{sets, sets-eq, length-sets, drop-cons, take-suc, take-nil}
 use Rattle.texts.specs.Characters.{ascii}
-use Rattle.texts.specs.Texts.{inFront, decimal, decimalIn, spaced, joined}
-use Rattle.texts.specs.CodeShape.{Appended, spaceBefore}
+use Rattle.texts.specs.Texts.{inFront, decimal, decimalIn, spaced, joined, hexWord}
+use Rattle.texts.specs.CodeShape.{Appended, spaceBefore, spacedWord}
 use Rattle.io.specs.Digits.{digits, Fewest}
 
 -- ---- one after the other
@@ -105,6 +105,11 @@ decimal-digits (suc m) (suc (suc k)) n h f =
     rw (le-ltb n 10 (omega arith), lt-ltb (n % 10) 10 r)
     (ap (λ (l : List ℕ). l ++ ((48 + n % 10) ∷ [])) (decimal-digits m (suc k) (n / 10) (omega arith) (omega arith, t, g)))
 
+-- a number of one digit
+pub digit : (n : ℕ) → n < 10 → decimal n ≡ ((48 + n) ∷ [])
+unfolding decimal
+digit n h = rw (lt-ltb n 10 h)
+
 -- ---- numbers in decimal, one space between
 
 spaced-suc : (xs : List ℕ) (i : ℕ) → i < length xs
@@ -139,6 +144,12 @@ take-min (x ∷ l) zero =
 take-min (x ∷ l) (suc n) =
     let e : min (suc n) (suc (length l)) ≡ suc (min n (length l)) = omega arith in
     ap (λ (k : ℕ). take k (x ∷ l)) e ∙ ap (λ (t : List ℕ). x ∷ t) (take-min l n)
+
+-- words after a field, a space before each
+pub spaced-words : (f ws : List ℕ) → spaced (f ∷ map hexWord ws) ≡ f ++ joined spacedWord ws
+spaced-words f [] = sym (append-nil f)
+spaced-words f (w ∷ ws) =
+    ap (λ (l : List ℕ). f ++ ascii " " ++ l) (spaced-words (hexWord w) ws) ∙ append-assoc f (ascii " ") (hexWord w ++ joined spacedWord ws)
 
 module _ (digits : ℕ → List ℕ) (xs : List ℕ) {d : List ℕ} {at : ℕ} where
   -- one turn of the loop

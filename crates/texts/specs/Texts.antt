@@ -3,7 +3,7 @@
 use Prim.Native.Nat.{ℕ, zero, suc, _+_, _/_, _%_}
 use mathlib.Core.Bool.{Bool, true, false, cond}
 use mathlib.Core.List.{List, [], _∷_, _++_, map}
-use lib.Dec.{ltb}
+use lib.Dec.{ltb, eqb}
 use lib.ListN.{length, take, drop}
 use Rattle.commands.specs.declared.BlockKind.{BlockKind}
 use Rattle.commands.specs.declared.BlockKind.the-variants.{Static, Dynamic}
@@ -12,6 +12,14 @@ use Rattle.commands.specs.declared.Command.the-variants.{Read, Write, Start, St
 use Rattle.crate_pass.specs.Crate.{saysDone}
 use Rattle.crate_pass.specs.declared.Outcome.{Outcome}
 use Rattle.crate_pass.specs.declared.Outcome.the-variants.{Good, Again, BoardFailed}
+use Rattle.crate_pass.specs.declared.PassKind.{PassKind}
+use Rattle.crate_pass.specs.declared.PassKind.the-variants as kind
+use Rattle.run.specs.declared.Freshness.{Freshness}
+use Rattle.run.specs.declared.Freshness.the-variants.{NeverWritten, Fresh, UsedByRun, UsedByReset}
+use Rattle.explanations.specs.declared.Activity.{Activity}
+use Rattle.explanations.specs.declared.Activity.the-variants.{Idle, Running, InPass, RunningInPass}
+use Rattle.explanations.specs.Explaining.{AllowedThere, range, Explained, accepted, missing, atFault, inState, notFresh, explainedNumber}
+use Rattle.explanations.specs.Explaining as explaining
 use Rattle.numbers.specs.Numbers.{digits}
 use Rattle.packets.specs.declared.Packet as packet
 use Rattle.packets.specs.Packets.{bitOf}
@@ -72,6 +80,48 @@ abbrev pub nextText : Bool → List ℕ → List ℕ
 nextText true frame = ascii "done"
 nextText false frame = joined hexByte frame
 
+-- ---- explanations
+
+abbrev pub kindText : PassKind → List ℕ
+kindText kind.Reprogramming = ascii "reprogramming"
+kindText kind.Ping = ascii "ping"
+kindText kind.Rates = ascii "rates"
+
+-- 9: "what the board does: `idle`, `running`, `reprogramming`, `ping`, `rates`, or `running and rates`"
+abbrev pub activityText : Activity → List ℕ
+activityText Idle = ascii "idle"
+activityText Running = ascii "running"
+activityText (InPass k) = kindText k
+activityText (RunningInPass k) = ascii "running and " ++ kindText k
+
+-- 10, which a fresh write never gets: "`nothing written` where no write was ever accepted; else `used by a run` or `used by a reset`"
+abbrev pub freshnessText : Freshness → List ℕ
+freshnessText NeverWritten = ascii "nothing written"
+freshnessText Fresh = ascii "fresh"
+freshnessText UsedByRun = ascii "used by a run"
+freshnessText UsedByReset = ascii "used by a reset"
+
+-- "`word`", and for 8 "`block word`"
+abbrev pub wordText : ℕ → List ℕ
+wordText n = cond (eqb n 8) (ascii "block word") (ascii "word")
+
+-- "all that is allowed there"
+abbrev pub allowedFields : AllowedThere → List (List ℕ)
+allowedFields (explaining.numbers ns) = map hexWord ns
+allowedFields (range low high) = hexWord low ∷ ascii "to" ∷ hexWord high ∷ []
+
+-- the place, "`is`, what stands there and a comma, `allowed` and all that is allowed there"
+abbrev pub faultFields : ℕ → ℕ → AllowedThere → List (List ℕ)
+faultFields place stands allowed = decimal place ∷ ascii "is" ∷ (hexWord stands ++ ascii ",") ∷ ascii "allowed" ∷ allowedFields allowed
+
+-- "what is printed after" the number
+abbrev pub reasonFields : Explained → List (List ℕ)
+reasonFields accepted = ascii "accepted" ∷ []
+reasonFields (missing n k) = ascii "missing" ∷ decimal k ∷ []
+reasonFields (atFault n place stands allowed) = wordText n ∷ faultFields place stands allowed
+reasonFields (inState a) = activityText a ∷ []
+reasonFields (notFresh f) = freshnessText f ∷ []
+
 -- ---- lines
 
 -- what is printed for a line, as the script's paper has it
@@ -83,9 +133,10 @@ pub data Printed : Type 0 where
   inBytes : List ℕ → Printed
   inWords : List ℕ → Printed
   block : Header → List ℕ → Printed
+  explanation : Explained → Printed
 
 -- its fields; of a block, "`0`, the board ID (16 hexadecimal digits), the firmware ID (4), the trigger counter and the timestamp
--- (decimal), and the body's words" (`Y`)
+-- (decimal), and the body's words" (`Y`); of an explanation, "`0` or the number of the refusal, and then why" (`E`)
 abbrev pub fieldsOf : Printed → List (List ℕ)
 fieldsOf question = ascii "?" ∷ []
 fieldsOf (numbers ns) = map decimal ns
@@ -101,6 +152,7 @@ fieldsOf (block h body) =
     ∷ decimal (h .timestamp)
     ∷ joined hexWord body
     ∷ []
+fieldsOf (explanation x) = decimal (explainedNumber x) ∷ reasonFields x
 
 -- "one space between fields, none at the end"
 abbrev pub spaced : List (List ℕ) → List ℕ

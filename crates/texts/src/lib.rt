@@ -1,19 +1,28 @@
-// The line that is printed for an answer.
+// The line that is printed for an answer, or to explain a command.
 ghost use mathlib.Core.Path.{_≡_};
-ghost use mathlib.Core.List.{map};
+ghost use mathlib.Core.List.{_∷_, _++_, map};
 ghost use Prim.Native.Nat.{_+_, _*_, _≤_, _<_, min};
 ghost use lib.ListN.{length, take};
 ghost use Rattle.packets.specs.Packets.{bitOf};
+ghost use Rattle.explanations.specs.Explaining.{allowedMeaning, reasonMeaning, explanationMeaning};
 ghost use Rattle.texts.specs.Characters.{ascii};
 ghost use Rattle.texts.specs.Texts.{hexDigit, hexByte, hexWord, decimal, commandText, nextText};
 ghost use Rattle.texts.specs.Texts.{done, served, block, packetNumbers, joined, spaced, fieldsOf, textOf, responseMeaning, inFront};
-ghost use Rattle.texts.specs.CodeShape.{Appended, spaceBefore};
+ghost use Rattle.texts.specs.Texts.{kindText, activityText, freshnessText, allowedFields, faultFields, explanation};
+ghost use Rattle.texts.specs.CodeShape.{Appended, spaceBefore, spacedWord};
 use blocks::Header;
 use commands::BlockKind;
 use commands::Command;
 use crate_pass::Outcome;
+use crate_pass::PassKind;
+use explanations::Activity;
+use explanations::Allowed;
+use explanations::Explanation;
+use explanations::Reason;
+use explanations::WordAtFault;
 use numbers::words64;
 use packets::Packet;
+use run::Freshness;
 
 // What is printed. The bytes and words stand in arrays beside it.
 pub enum Response {
@@ -298,6 +307,135 @@ fn append_fields(
     }
 }
 
+// The kind of a pass.
+fn append_kind(text: &mut [u8; 2560], at: usize, kind: PassKind) -> usize
+    requires { ⌜ at + 13 ≤ 2560 ⌝ }
+    ensures { λ r. ⌜ Appended (now (text .entry)) at (kindText kind) 13 r (now (text .exit)) ⌝ }
+{
+    match kind {
+        PassKind::Reprogramming => append(text, at, b"reprogramming"),
+        PassKind::Ping => append(text, at, b"ping"),
+        PassKind::Rates => append(text, at, b"rates"),
+    }
+}
+
+// What the board does.
+fn append_activity(text: &mut [u8; 2560], at: usize, activity: Activity) -> usize
+    requires { ⌜ at + 25 ≤ 2560 ⌝ }
+    ensures { λ r. ⌜ Appended (now (text .entry)) at (activityText activity) 25 r (now (text .exit)) ⌝ }
+{
+    match activity {
+        Activity::Idle => append(text, at, b"idle"),
+        Activity::Running => append(text, at, b"running"),
+        Activity::InPass(kind) => append_kind(text, at, kind),
+        Activity::RunningInPass(kind) => {
+            let next = append(text, at, b"running and ");
+            append_kind(text, next, kind)
+        }
+    }
+}
+
+// What became of the last write.
+fn append_freshness(text: &mut [u8; 2560], at: usize, freshness: Freshness) -> usize
+    requires { ⌜ at + 15 ≤ 2560 ⌝ }
+    ensures { λ r. ⌜ Appended (now (text .entry)) at (freshnessText freshness) 15 r (now (text .exit)) ⌝ }
+{
+    match freshness {
+        Freshness::NeverWritten => append(text, at, b"nothing written"),
+        Freshness::Fresh => append(text, at, b"fresh"),
+        Freshness::UsedByRun => append(text, at, b"used by a run"),
+        Freshness::UsedByReset => append(text, at, b"used by a reset"),
+    }
+}
+
+// As many of the listed numbers, or all, a space before each.
+fn append_listed(text: &mut [u8; 2560], at: usize, listed: &[u16], count: usize) -> usize
+    requires { ⌜ at + 5 * length (now listed) ≤ 2560 ⌝ }
+    ensures { λ r.
+        ⌜ Appended (now (text .entry)) at (joined spacedWord (take count (now (listed .entry)))) (5 * length (now (listed .entry))) r (now (text .exit)) ⌝ }
+{
+    let end = lesser(count, listed.len());
+    let mut next = at;
+    let mut printed = 0;
+    while printed < end {
+        text[next] = 32;
+        next = append_hex_word(text, next + 1, listed[printed]);
+        printed += 1;
+    }
+    next
+}
+
+// All that is allowed at a place.
+fn append_allowed(text: &mut [u8; 2560], at: usize, allowed: Allowed, listed: &[u16]) -> usize
+    requires { ⌜ (at + 47 ≤ 2560) × (length (now listed) ≤ 8) ⌝ }
+    ensures { λ r.
+        ⌜ Appended (now (text .entry)) at (spaced (ascii "allowed" ∷ allowedFields (allowedMeaning allowed (now (listed .entry)))))
+        47 r (now (text .exit)) ⌝ }
+{
+    match allowed {
+        Allowed::Numbers(count) => {
+            let next = append(text, at, b"allowed");
+            append_listed(text, next, listed, count)
+        }
+        Allowed::Range(low, high) => {
+            let mut next = append(text, at, b"allowed ");
+            next = append_hex_word(text, next, low);
+            next = append(text, next, b" to ");
+            append_hex_word(text, next, high)
+        }
+    }
+}
+
+// Characters at the front, and a number after them.
+fn append_with_decimal(text: &mut [u8; 2560], front: &[u8], n: usize) -> usize
+    requires { ⌜ length (now front) ≤ 13 ⌝ }
+    ensures { λ r. ⌜ Appended (now (text .entry)) 0 (now (front .entry) ++ decimal n) 33 r (now (text .exit)) ⌝ }
+{
+    let at = append(text, 0, front);
+    append_decimal(text, at, n as u64)
+}
+
+// Characters at the front, and a word at fault after them.
+fn append_fault(text: &mut [u8; 2560], front: &[u8], f: WordAtFault, listed: &[u16]) -> usize
+    requires { ⌜ (length (now front) ≤ 13) × (length (now listed) ≤ 8) ⌝ }
+    ensures { λ r.
+        ⌜ Appended (now (text .entry)) 0
+        (now (front .entry) ++ spaced (faultFields (f .place) (f .stands) (allowedMeaning (f .allowed) (now (listed .entry)))))
+        90 r (now (text .exit)) ⌝ }
+{
+    let allowed = f.allowed;
+    let mut next = append_with_decimal(text, front, f.place);
+    next = append(text, next, b" is ");
+    next = append_hex_word(text, next, f.stands);
+    next = append(text, next, b", ");
+    append_allowed(text, next, allowed, listed)
+}
+
+// Why a command gets its answer.
+fn append_reason(text: &mut [u8; 2560], reason: Reason, listed: &[u16; 8]) -> usize
+    ensures { λ r. ⌜ Appended (now (text .entry)) 0 (spaced (fieldsOf (explanation (reasonMeaning reason (now (listed .entry)))))) 90 r (now (text .exit)) ⌝ }
+{
+    match reason {
+        Reason::Accepted => append(text, 0, b"0 accepted"),
+        Reason::TooFewWords(k) => append_with_decimal(text, b"1 missing ", k),
+        Reason::WrongFirstWord(f) => append_fault(text, b"2 word ", f, listed),
+        Reason::UnknownCommand(f) => append_fault(text, b"3 word ", f, listed),
+        Reason::UnlistedParameter(f) => append_fault(text, b"4 word ", f, listed),
+        Reason::SpareWordNotZero(f) => append_fault(text, b"5 word ", f, listed),
+        Reason::WrongLength(k) => append_with_decimal(text, b"6 missing ", k),
+        Reason::NoEvents(f) => append_fault(text, b"7 word ", f, listed),
+        Reason::AboveBound(f) => append_fault(text, b"8 block word ", f, listed),
+        Reason::NotAcceptedNow(activity) => {
+            let at = append(text, 0, b"9 ");
+            append_activity(text, at, activity)
+        }
+        Reason::NotFresh(freshness) => {
+            let at = append(text, 0, b"10 ");
+            append_freshness(text, at, freshness)
+        }
+    }
+}
+
 // The line feed. A slice, since a reference to an array says nothing of its length.
 fn end_line(text: &mut [u8], at: usize) -> usize
     requires { ⌜ at < length (now text) ⌝ }
@@ -318,5 +456,16 @@ pub fn write_response(
     ensures { λ _. ⌜ now (text .exit) ≡ inFront (textOf (responseMeaning response (now (bytes .entry)) (now (words .entry)))) (now (text .entry)) ⌝ }
 {
     let end = append_fields(text, response, bytes, words);
+    end_line(text, end)
+}
+
+// The line that explains a command, at the front of the text; its length.
+pub fn write_explanation(e: Explanation, text: &mut [u8; 2560]) -> usize
+    ensures { λ r. ⌜ r ≡ length (textOf (explanation (explanationMeaning e))) ⌝ }
+    ensures { λ _. ⌜ now (text .exit) ≡ inFront (textOf (explanation (explanationMeaning e))) (now (text .entry)) ⌝ }
+{
+    let reason = e.reason;
+    let listed = e.listed;
+    let end = append_reason(text, reason, &listed);
     end_line(text, end)
 }

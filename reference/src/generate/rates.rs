@@ -1,8 +1,9 @@
 //! Rate passes, begun idle and in a run, with lines of all kinds between (02, i).
 
 use super::{
-    busy_crate, bytes_line, clock_line, dynamic_line, far_end, item, pass_line, power_up_line,
-    random_block, serve_pass, some_start, temperatures_line, trigger_line, Random, Script,
+    busy_crate, bytes_line, clock_line, dynamic_line, explanations, far_end, item, pass_line,
+    power_up_line, random_block, serve_pass, some_start, temperatures_line, trigger_line, Random,
+    Script,
 };
 use crate::commands::{Command, Events, ReadBlock};
 use crate::configuration::{self, ACTIVE};
@@ -123,7 +124,7 @@ fn board_of(address: u8) -> usize {
 
 /// A line between the items of a rate pass: what goes on, and what is refused.
 fn line_between(random: &mut Random, script: &mut Script) {
-    match random.weighted(&[30, 15, 3, 20, 14, 20, 4]) {
+    match random.weighted(&[30, 15, 3, 20, 14, 20, 5, 4]) {
         0 => script.push(&trigger_line(random)),
         1 => script.push(&clock_line(random)),
         2 => script.command(&Command::Stop),
@@ -135,6 +136,10 @@ fn line_between(random: &mut Random, script: &mut Script) {
             }
         }
         5 => shown_line(random, script),
+        6 => {
+            let line = explanations::line(random);
+            explanations::push_explained(random, script, &line);
+        }
         _ => {
             let line = far_end::line(random, script);
             script.push(&line);

@@ -8,18 +8,16 @@ use std::sync::Mutex;
 
 use reference::board::{Mode, PassKind};
 use reference::generate::{self, crate_in, Generated, SCRIPTS};
-use reference::other::{self, shown, Served};
+use reference::other::{self, shown, Seen, Served};
 use reference::replay::MAX_DIGITS;
 use reference::{frames, CRATES};
 
 use rates::Answered;
 
+mod explanations;
 mod rates;
 
 const SEED: u64 = 1;
-
-/// How often each answer was seen, by its name.
-type Seen = BTreeMap<String, usize>;
 
 /// Every answer that the board's lines can get: the line's letter and the
 /// refusal, or what was done. `G 17` is left out: no script has the
@@ -48,6 +46,17 @@ const REACHABLE: &[&str] = &[
     "C 5 reset 1",
     "C 5 reset 2",
     "C 5 reset 3",
+    "E 0",
+    "E 1",
+    "E 2",
+    "E 3",
+    "E 4",
+    "E 5",
+    "E 6",
+    "E 7",
+    "E 8",
+    "E 9",
+    "E 10",
     "K 0",
     "G 0",
     "G 15",
@@ -151,7 +160,8 @@ const FETCHES: &[&str] = &[
 /// Every answer that must be seen.
 fn listed() -> Vec<String> {
     let listed = [REACHABLE, FAR_END, OTHER_FORMS, RESETS, FETCHES].concat();
-    listed.into_iter().map(String::from).chain(rates::listed()).collect()
+    let listed = listed.into_iter().map(String::from);
+    listed.chain(rates::listed()).chain(explanations::listed()).collect()
 }
 
 /// The digits of the IDs of commands.
@@ -424,7 +434,7 @@ fn other_form(line: &[u8]) -> Option<&'static str> {
 }
 
 /// The name of each answer to a script's lines, and its names in `RESETS`,
-/// `FETCHES` and the lists of `rates`.
+/// `FETCHES` and the lists of `rates` and `explanations`.
 fn names<'a>(
     script_lines: &'a [&[u8]],
     answers: &'a [&[u8]],
@@ -433,6 +443,7 @@ fn names<'a>(
     let mut past = Past::default();
     let mut buses = Buses::default();
     let mut rates = rates::Past::default();
+    let mut explanations = explanations::Past::default();
     answers.iter().zip(served).map(move |(answer, served)| {
         let &Served { number, mode, fresh, .. } = served;
         let line = script_lines[number];
@@ -441,9 +452,11 @@ fn names<'a>(
         let mut others = past.names(line, &name, mode, fresh);
         others.extend(buses.names(line, &name).into_iter().map(String::from));
         others.extend(rates.names(&answered));
+        others.extend(explanations.names(&answered));
         past.add(line, &name, fresh);
         buses.add(line, &name);
         rates.add(&answered);
+        explanations.add(&answered);
         (name, others)
     })
 }
@@ -460,17 +473,8 @@ fn compare(program: &str, script: &[u8], seen: &Mutex<Seen>) -> Result<usize, St
             *counts.entry(name).or_default() += 1;
         }
     }
-    {
-        let mut seen = seen.lock().expect("no thread panicked");
-        for (name, count) in counts {
-            *seen.entry(name).or_default() += count;
-        }
-    }
-    let (other_printed, status) =
-        other::run(program, script).map_err(|error| format!("cannot run {program}: {error}"))?;
-    if !status.success() {
-        return Err(format!("the other program ended with {status}"));
-    }
+    other::add_seen(seen, counts);
+    let other_printed = other::run_other(program, script)?;
     if other_printed == printed {
         return Ok(ours.len());
     }
@@ -518,18 +522,7 @@ fn print_seen(seen: &Seen) {
 /// False, with a line that says which, if an answer in the lists was never seen
 /// or one was seen that is in none.
 fn check_seen(seen: &Seen) -> bool {
-    let listed: BTreeSet<String> = listed().into_iter().collect();
-    let missing = listed.iter().filter(|&name| !seen.contains_key(name)).cloned().collect();
-    let unlisted = seen.keys().filter(|&name| !listed.contains(name)).cloned().collect();
-    let mut right = true;
-    for (what, names) in [("never seen", missing), ("seen and not listed", unlisted)] {
-        let names: Vec<String> = names;
-        if !names.is_empty() {
-            println!("{what}: {}", names.join(", "));
-            right = false;
-        }
-    }
-    right
+    other::check_seen(seen, listed())
 }
 
 fn main() -> ExitCode {
@@ -556,7 +549,7 @@ fn main() -> ExitCode {
 }
 
 #[cfg(test)]
-mod tests {
+pub mod tests {
     use super::*;
 
     #[test]
@@ -593,38 +586,40 @@ mod tests {
         }
     }
 
-    const RESET: &str = "C0040 0020 0002 0000 0000\n";
-    const START: &str = "C0040 0004 0001 0000 0000\n";
-    const START_OF_ONE: &str = "C0040 0004 0002 0000 0000 0000 0001\n";
-    const TRIGGER: &str = "G0000000000000000\n";
-    const STOP: &str = "C0040 0008 0000 0000 0000\n";
-    const PING: &str = "C0040 0010 0000 0000 0000\n";
+    pub const RESET: &str = "C0040 0020 0002 0000 0000\n";
+    pub const START: &str = "C0040 0004 0001 0000 0000\n";
+    pub const START_OF_ONE: &str = "C0040 0004 0002 0000 0000 0000 0001\n";
+    pub const TRIGGER: &str = "G0000000000000000\n";
+    pub const STOP: &str = "C0040 0008 0000 0000 0000\n";
+    pub const PING: &str = "C0040 0010 0000 0000 0000\n";
     /// Refused with 4 and 5.
-    const RESET_OF_NO_CRATE: &str = "C004000 200003 00000000\n";
+    pub const RESET_OF_NO_CRATE: &str = "C004000 200003 00000000\n";
     const RESET_WITH_SPARE_WORD: &str = "C0040 0020 0001 0000 0001\n";
     /// Refused with 6.
-    const SHORT_WRITE: &str = "C0040 0002 0001 0000 0000 0000\n";
+    pub const SHORT_WRITE: &str = "C0040 0002 0001 0000 0000 0000\n";
     const SHORT_START: &str = "C0040 0004 0002 0000 0000 0000\n";
 
     /// A write with these active flags of crate 3, and all else zero.
-    fn write_line(flags: &str) -> String {
+    pub fn write_line(flags: &str) -> String {
         format!("C0040 0002 0001 0000 0000 {}{flags}\n", "0000".repeat(435))
     }
 
     /// The lines of a ping in which no board answers.
-    fn time_ups() -> String {
+    pub fn time_ups() -> String {
         (0..4).map(|crate_number| format!("T0{crate_number}\n").repeat(30)).collect()
     }
 
-    /// Checks for each row which names in `RESETS` and `FETCHES` its lines have, in
-    /// turn.
-    fn check_names(rows: &[(&[&str], &[&str])]) {
+    /// The names that the lines of a script have beside their own, in turn.
+    pub fn names_of(script: &str) -> Vec<String> {
+        let (printed, served) = other::model(script.as_bytes());
+        let (lines, answers) = (other::lines(script.as_bytes()), other::lines(&printed));
+        names(&lines, &answers, &served).flat_map(|(_, others)| others).collect()
+    }
+
+    /// Checks for each row which names beside their own its lines have, in turn.
+    pub fn check_names(rows: &[(&[&str], &[&str])]) {
         for (number, (row, expected)) in rows.iter().enumerate() {
-            let script = row.concat();
-            let (printed, served) = other::model(script.as_bytes());
-            let (lines, answers) = (other::lines(script.as_bytes()), other::lines(&printed));
-            let found = names(&lines, &answers, &served).flat_map(|(_, others)| others);
-            assert_eq!(found.collect::<Vec<_>>(), *expected, "row {number}");
+            assert_eq!(names_of(&row.concat()), *expected, "row {number}");
         }
     }
 
@@ -937,6 +932,11 @@ mod tests {
             "R bad with count 4 at 2^30 - 1",
             "D 0 with rates before any rate pass",
             "L 0 while fetching rates",
+            "E 11",
+            "E 10 used by a run where it is nothing written",
+            "E 9 idle for a ping while running",
+            "E 8 block word 4, allowed 0000 to FFFF",
+            "C 4 explained as 5",
         ] {
             let mut more = seen.clone();
             more.insert(name.to_string(), 1);

@@ -132,7 +132,8 @@ impl Answered<'_> {
         self.served.mode.pass == Some(PassKind::Rates)
     }
 
-    fn digits(&self) -> impl Iterator<Item = u8> + '_ {
+    /// The line after its letter, without spaces.
+    pub fn digits(&self) -> impl Iterator<Item = u8> + '_ {
         self.line[1..].iter().copied().filter(|&byte| byte != b' ')
     }
 

@@ -4,9 +4,7 @@
 
 use reference::blocks::HEADER;
 use reference::generate::{Interleaved, Part};
-use reference::other;
-
-use crate::{difference, run_other};
+use reference::other::{self, difference, run_other};
 
 /// Words of a dynamic block up to the temperatures: the header and the on-time.
 const COUNTERS: usize = HEADER + 3;

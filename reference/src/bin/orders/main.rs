@@ -7,7 +7,7 @@
 use std::process::ExitCode;
 
 use reference::generate::{self, bytes_line, Item, Pass};
-use reference::other::{self, shown, Compared};
+use reference::other::{self, difference, run_other, Compared};
 
 mod between;
 
@@ -60,21 +60,6 @@ fn divide<'a>(lines: &'a [&'a [u8]], pass: &Pass, order: &[&Item]) -> Result<Pri
     Ok(Printed { before: head, crates, after })
 }
 
-/// The first place where two lists of lines differ.
-fn difference(what: &str, first: &[&[u8]], second: &[&[u8]]) -> Result<(), String> {
-    for place in 0..first.len().max(second.len()) {
-        if first.get(place) != second.get(place) {
-            return Err(format!(
-                "{what}, line {}: {} and {}",
-                place + 1,
-                shown(first.get(place).copied()),
-                shown(second.get(place).copied())
-            ));
-        }
-    }
-    Ok(())
-}
-
 /// Compares one program's two orders.
 fn compare_orders(
     name: &str,
@@ -94,16 +79,6 @@ fn compare_orders(
         difference(&what, first, second).map_err(with_name)?;
     }
     difference("after the pass", first.after, second.after).map_err(with_name)
-}
-
-/// What the other program prints on this script.
-fn run_other(program: &str, text: &[u8]) -> Result<Vec<u8>, String> {
-    let (printed, status) =
-        other::run(program, text).map_err(|error| format!("cannot run {program}: {error}"))?;
-    if !status.success() {
-        return Err(format!("the other program ended with {status}"));
-    }
-    Ok(printed)
 }
 
 /// Serves one pass; gives the number of lines compared.
