@@ -1,12 +1,12 @@
 -- Which IDs and parameters are allowed: those that are not refused with 3, or with 4. And X is 0 where a start that counts no events is named.
 -- Assumes nothing.
 use Prim.Native.Nat.{ℕ}
-use mathlib.Core.Path.{_≡_, refl, sym, ap, ap₂, _∙_}
+use mathlib.Core.Path.{_≡_, refl, sym, ap, _∙_}
 use mathlib.Core.Bool.{Bool, true, false, cond, not, _&&_, _||_, and-true, and-false, or-true, or-false, false≢true}
 use mathlib.Core.List.{List, [], _∷_, map}
 use lib.Dec.{eqb}
 use borrow.Author.Tests.{eqb-true}
-use Rattle.refusals.specs.Tables.{Answer, given, refused}
+use Rattle.refusals.specs.Tables.{given, refused}
 use Rattle.commands.specs.Commands.{idOf, parameterOf, noEvents, rows, lookUp, listedAs, ids, parametersIn, parametersOf}
 use Rattle.commands.specs.declared.Command.{Command}
 use Rattle.command_reader.specs.Reading.{isRefusal, commandOf}

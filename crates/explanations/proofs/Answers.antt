@@ -1,30 +1,24 @@
 -- What an answer says of the rows of its table, and which refusal its explanation names.
 -- Assumes nothing.
-use Prim.Native.Nat.{ℕ, _+_, _-_, _*_, _<_, _≤_}
-use mathlib.Core.Path.{_≡_, refl, sym, ap, ap₂, subst, _∙_}
-use mathlib.Core.Bool.{Bool, true, false, not, _&&_, _||_, or-false, true≢false, false≢true}
-use mathlib.Core.List.{List, [], _∷_, _++_}
-use mathlib.Core.Logic.{_⊎_, inl, inr}
-use native.Mathlib.Omega.{arith}
-use lib.Dec.{T, ltb, leb, eqb}
-use lib.ListN.{length, getD, set, take, drop, length-set}
-use lib.Seq.{getD-set-same, getD-set-other}
-use borrow.Author.Tests.{ltb-true, ltb-false, lt-ltb, le-ltb, eqb-true, eqb-false, eq-eqb, ne-eqb, not-true, not-false}
+use Prim.Native.Nat.{ℕ, _-_}
+use mathlib.Core.Path.{_≡_, refl, sym, ap, _∙_}
+use mathlib.Core.Bool.{true, false, false≢true}
+use mathlib.Core.List.{List}
+use mathlib.Core.Logic.{inl, inr}
+use lib.Dec.{eqb}
+use lib.ListN.{take}
+use borrow.Author.Tests.{eqb-true}
 use Rattle.refusals.specs.Tables.{Answer, given, refused, answerNumber, Rule}
 use Rattle.refusals.proofs.Tables.{Clear, Applies, NoneBelow}
-use Rattle.commands.specs.Commands.{blockLength, noEvents, isWrite, ids, parametersOf, listedAs}
 use Rattle.commands.specs.declared.Command.{Command}
-use Rattle.command_reader.specs.Reading.{countIn, namedIn, isRefusal, commandOf, commandIn, spareSet, placeIn, readRules}
+use Rattle.command_reader.specs.Reading.{commandIn, readRules}
 use Rattle.acceptance.specs.Acceptance.{commandRules, decided}
-use Rattle.acceptance.specs.declared.Status.{Status}
 use Rattle.acceptance.proofs.Deciding.{command-exactly}
-use Rattle.explanations.specs.Explaining.{statusIn, AllowedThere, member, isAllowed, Explained, accepted, missing, atFault, inState, notFresh}
-use Rattle.explanations.specs.Explaining.{explainedNumber, position, firstPlace, allowedAt, wordAt, spareAt, explanations, explainedBy, explained}
-use Rattle.explanations.specs.TrueReason.{answered, names, put, TrueWord, TrueMissing, True, TrueReason}
+use Rattle.explanations.specs.Explaining.{statusIn, Explained, accepted, missing, atFault, inState, notFresh}
+use Rattle.explanations.specs.Explaining.{explainedNumber, explainedBy, explained}
+use Rattle.explanations.specs.TrueReason.{answered, names}
 use Rattle.explanations.specs.declared.Present.{Present}
 use Rattle.explanations.proofs.Rows.{and-left, never, applied, applies-applied, rowAt, row-given}
-use Rattle.explanations.proofs.AllowedNumbers.{unknown-id, unlisted-parameter, events-zero}
-use Rattle.explanations.proofs.SameRow.{same-named, same-block, same-write, same-refusal}
 
 -- ---- what an answer says of the rows
 

@@ -2,27 +2,28 @@
 -- Assumes nothing.
 use Prim.Native.Nat.{ℕ, _+_, _<_, _≤_}
 use mathlib.Core.Path.{_≡_, refl, sym, ap, ap₂, subst, _∙_}
-use mathlib.Core.Bool.{Bool, true, false, not, _&&_, _||_, or-false, false≢true}
+use mathlib.Core.Bool.{Bool, true, false, _&&_, or-false}
 use mathlib.Core.List.{List}
 use native.Mathlib.Omega.{arith}
 use lib.Dec.{ltb, leb, eqb, leb·zero}
 use lib.ListN.{length, getD, set, take, drop, length-set, length-drop}
 use lib.Seq.{length-take-le, getD-take, getD-drop, getD-set-same}
-use borrow.Author.Tests.{ltb-true, ltb-false, lt-ltb, le-ltb, leb-true, leb-false, le-leb, lt-leb, eqb-true, eq-eqb}
+use borrow.Author.Tests.{ltb-true, ltb-false, lt-ltb, leb-true, leb-false, le-leb, lt-leb, eqb-true, eq-eqb}
 use Rattle.refusals.specs.Tables.{refused}
-use Rattle.refusals.proofs.Tables.{Clear}
+use Rattle.refusals.proofs.Tables.{Clear, clear-append}
 use Rattle.bounds.specs.Bounds.{boundOf, lowestAbove}
-use Rattle.bounds.proofs.Lowest.{lowest-before, lowest-there, lowest-within}
+use Rattle.bounds.proofs.Lowest.{lowest-before, lowest-there}
 use Rattle.commands.specs.Commands.{blockLength, noEvents, isWrite}
 use Rattle.commands.proofs.Each.{is-a-write, write-block}
-use Rattle.command_reader.specs.Reading.{countIn, namedIn, isRefusal, commandIn, spareSet, placeIn, readRules}
+use Rattle.command_reader.specs.Reading.{namedIn, commandIn, placeIn, readRules}
 use Rattle.explanations.specs.Explaining.{isAllowed, range, allowedAt}
-use Rattle.explanations.specs.TrueReason.{answered, names, TrueWord}
+use Rattle.explanations.specs.TrueReason.{answered, TrueWord}
 use Rattle.explanations.specs.declared.Present.{Present}
 use Rattle.explanations.proofs.Rows.{and-left, and-right, clear-below}
 use Rattle.explanations.proofs.Answers.{rulesIn, row-answered, applies-here, none-below, not-named, is-named}
-use Rattle.explanations.proofs.SameRow.{same-named, same-block, same-write, same-refusal, SameNamed}
-use Rattle.explanations.proofs.WordsAtFault.{alone, clash, five-still, first-still, other}
+use Rattle.explanations.proofs.SameRow.{same-write}
+use Rattle.explanations.proofs.FirstWords.{same-command, same-due, clear-five}
+use Rattle.explanations.proofs.WordsAtFault.{other}
 
 -- ---- the block
 
@@ -118,56 +119,43 @@ module _ (w : List ℕ) (p : Present) (q : ℕ) (e : answered w p ≡ refused 8 
     w′ = set w (5 + q) x
 
     put-there : getD w′ (5 + q) 0 ≡ x
-    put-there = let l = (whole w p q e) in let k = (in-block w p q e) in getD-set-same w (5 + q) x 0 (omega arith)
+    put-there = let l = whole w p q e in let k = in-block w p q e in getD-set-same w (5 + q) x 0 (omega arith)
 
-    -- the same row is named, of whatever X
-    same-command : SameNamed (namedIn w′) (namedIn w)
-    same-command =
-        let one = other w (5 + q) x 1 (λ z. omega arith) in
-        let two = other w (5 + q) x 2 (λ z. omega arith) in
-        rw (one, two) (same-named (getD w 1 0) (getD w 2 0) (countIn w′) (countIn w))
+    -- the first five words are the same
+    long : 5 ≤ length w′
+    long = let l = whole w p q e in rw length-set (omega arith)
+
+    front : (k : ℕ) → k < 5 → getD w′ k 0 ≡ getD w k 0
+    front k l = other w (5 + q) x k (λ z. omega arith)
 
     still-write : isWrite (commandIn w′) ≡ true
-    still-write = same-write (namedIn w′) (namedIn w) same-command ∙ (is-write w p q e)
+    still-write = same-write (namedIn w′) (namedIn w) (same-command w′ w long front) ∙ is-write w p q e
 
     clear-still : Clear (take 7 (rulesIn w′ p))
-    unfolding readRules spareSet
+    unfolding readRules
     clear-still =
-        let three = other w (5 + q) x 3 (λ z. omega arith) in
-        let four = other w (5 + q) x 4 (λ z. omega arith) in
-        let spare : spareSet w′ ≡ false = rw (three, four) ((clear-8 w p q e) .1 .1 .1 .1 .0) in
         let due : ltb (length w′) (5 + blockLength (commandIn w′)) ≡ false =
-        ap₂ (λ (n b : ℕ). ltb n (5 + b)) (length-set w (5 + q) x) (same-block (namedIn w′) (namedIn w) same-command) ∙ (clear-8 w p q e) .1 .1 .1 .1 .1 .0 in
-        let events : noEvents (commandIn w′) ≡ false = ap noEvents (is-a-write (commandIn w′) still-write) in (
-          five-still w (5 + q) x ((clear-8 w p q e) .0),
-          (
-            first-still w (5 + q) x (λ z. omega arith) ((clear-8 w p q e) .1 .0),
-            (
-              same-refusal 3 (namedIn w′) (namedIn w) same-command ∙ (clear-8 w p q e) .1 .1 .0,
-              (
-                same-refusal 4 (namedIn w′) (namedIn w) same-command ∙ (clear-8 w p q e) .1 .1 .1 .0,
-                (spare, (due, (events, tt))),
-              ),
-            ),
-          ),
-        )
+        ap₂ (λ (n b : ℕ). ltb n (5 + b)) (length-set w (5 + q) x) (same-due w′ w long front) ∙ clear-8 w p q e .1 .1 .1 .1 .1 .0 in
+        let events : noEvents (commandIn w′) ≡ false = ap noEvents (is-a-write (commandIn w′) still-write) in
+        let five = clear-below 5 8 (rulesIn w p) tt (none-below w p 8 q e) in
+        clear-append (take 5 (rulesIn w′ p)) (take 2 (drop 5 (rulesIn w′ p))) (clear-five w′ w long front p five) (due, (events, tt))
 
     -- 8 is given at that place again, where it is above its bound too
     still-8 : boundOf q < x → answered w′ p ≡ refused 8 q
     unfolding readRules
     still-8 l =
-        let long : 441 ≤ length w′ = rw length-set (whole w p q e) in
+        let all : 441 ≤ length w′ = rw length-set (whole w p q e) in
         let small : (k : ℕ) → k < q → getD w′ (5 + k) 0 ≤ boundOf k = λ k m. rw (other w (5 + q) x (5 + k) (λ z. omega arith)) (before w p q e k m) in
         let large : boundOf q < getD w′ (5 + q) 0 = rw put-there l in
-        let at : placeIn w′ ≡ q = place-is w′ q long (in-block w p q e) small large in
-        let b : q < 436 = (in-block w p q e) in
+        let at : placeIn w′ ≡ q = place-is w′ q all (in-block w p q e) small large in
+        let b : q < 436 = in-block w p q e in
         let t : (isWrite (commandIn w′) && ltb (placeIn w′) 436) ≡ true = rw (still-write, at, lt-ltb q 436 b) refl in
         row-answered w′ p 7 clear-still t ∙ ap (refused 8) at
 
   pub word-8 : TrueWord w p 8 q (getD w (5 + q) 0) (allowedAt 8 w q)
   word-8 =
-      let l = (whole w p q e) in
-      let k = (in-block w p q e) in
+      let l = whole w p q e in
+      let k = in-block w p q e in
       record {
         there = omega arith;
         word = refl;

@@ -6,14 +6,14 @@ use mathlib.Core.Bool.{Bool, true, false, cond}
 use mathlib.Core.List.{List, [], _∷_}
 use native.Mathlib.Omega.{arith}
 use lib.Dec.{leb, eqb}
-use lib.ListN.{length, getD, take, replicate, length-append, length-replicate}
+use lib.ListN.{length, getD, take, length-append, length-replicate}
 use lib.Seq.{length-take-le, take-all}
 use borrow.Author.Tests.{leb-true, leb-false, eqb-true, eqb-false}
 use Rattle.refusals.specs.Tables.{answerNumber, answerPlace}
 use Rattle.commands.specs.Commands.{parametersOf}
 use Rattle.acceptance.specs.Acceptance.{decided}
 use Rattle.explanations.specs.Explaining.{AllowedThere, numbers, range, Explained, accepted, missing, atFault, inState, notFresh}
-use Rattle.explanations.specs.Explaining.{statusIn, explanations, explained, allowedMeaning, reasonMeaning, numbersAllowed, numbersIn, inEight, Explains}
+use Rattle.explanations.specs.Explaining.{statusIn, explanations, explained, allowedMeaning, reasonMeaning, numbersAllowed, numbersIn, Explains}
 use Rattle.explanations.specs.declared.Present.{Present}
 use Rattle.explanations.specs.declared.Allowed.{Allowed}
 use Rattle.explanations.specs.declared.Allowed.the-variants.{Numbers, Range}

@@ -4,6 +4,7 @@ pub mod Saying
 pub mod Rows
 pub mod AllowedNumbers
 pub mod Answers
+pub mod FirstWords
 pub mod WordsAtFault
 pub mod BlockWords
 pub mod MissingWords

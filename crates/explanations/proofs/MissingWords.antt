@@ -1,24 +1,24 @@
 -- 02, c: with as many words added as are said to be missing, that refusal is no longer given; with fewer it is.
 -- Assumes nothing.
 use Prim.Native.Nat.{ℕ, _+_, _-_, _<_, _≤_}
-use mathlib.Core.Path.{_≡_, refl, sym, ap, ap₂, _∙_}
-use mathlib.Core.Bool.{Bool, true, false, not, _&&_, _||_, or-false, false≢true}
+use mathlib.Core.Path.{_≡_, refl, ap}
+use mathlib.Core.Bool.{Bool, true, false}
 use mathlib.Core.List.{List, _++_}
 use native.Mathlib.Omega.{arith}
 use lib.Dec.{ltb, eqb}
 use lib.ListN.{length, getD, take, length-append, List·getD-append}
-use borrow.Author.Tests.{ltb-true, ltb-false, lt-ltb, le-ltb, eqb-true, eq-eqb, ne-eqb}
+use borrow.Author.Tests.{ltb-true, ltb-false, lt-ltb, ne-eqb}
 use Rattle.refusals.specs.Tables.{Answer, given, refused, answerNumber}
 use Rattle.refusals.proofs.Tables.{Clear}
 use Rattle.commands.specs.Commands.{blockLength}
 use Rattle.commands.specs.declared.Command.{Command}
-use Rattle.command_reader.specs.Reading.{countIn, namedIn, isRefusal, commandIn, spareSet, readRules}
+use Rattle.command_reader.specs.Reading.{commandIn, readRules}
 use Rattle.explanations.specs.TrueReason.{answered, TrueMissing}
 use Rattle.explanations.specs.declared.Present.{Present}
-use Rattle.explanations.proofs.Rows.{never, clear-below}
+use Rattle.explanations.proofs.Rows.{clear-below}
 use Rattle.explanations.proofs.Answers.{rulesIn, row-answered, applies-here, none-below}
-use Rattle.explanations.proofs.SameRow.{same-named, same-block, same-refusal, SameNamed}
-use Rattle.explanations.proofs.WordsAtFault.{alone, clash}
+use Rattle.explanations.proofs.FirstWords.{same-due, clear-five}
+use Rattle.explanations.proofs.WordsAtFault.{alone}
 
 -- an answer's number is n, which is not 0, only where n is refused
 not-number : (a : Answer Command) (n : ℕ) → 1 ≤ n → ((q : ℕ) → a ≡ refused n q → ⊥) → eqb (answerNumber a) n ≡ false
@@ -63,46 +63,27 @@ module _ (w : List ℕ) (p : Present) (q : ℕ) (e : answered w p ≡ refused 6 
   five = ltb-false _ _ (clear-6 .0)
 
   -- the first five words are the same
+  long : 5 ≤ length (w ++ more)
+  long = let f = five in rw length-append (omega arith)
+
   front : (k : ℕ) → k < 5 → getD (w ++ more) k 0 ≡ getD w k 0
   front k l = let f = five in List·getD-append w more 0 k (omega arith)
 
-  -- so the same row is named, of whatever X
-  same-command : SameNamed (namedIn (w ++ more)) (namedIn w)
-  same-command =
-      rw (front 1 (omega arith), front 2 (omega arith)) (same-named (getD w 1 0) (getD w 2 0) (countIn (w ++ more)) (countIn w))
-
-  same-due : blockLength (commandIn (w ++ more)) ≡ blockLength (commandIn w)
-  same-due = same-block (namedIn (w ++ more)) (namedIn w) same-command
-
-  clear-still : Clear (take 5 (rulesIn (w ++ more) p))
-  unfolding readRules spareSet
-  clear-still =
-      let f = five in
-      let long : 5 ≤ length (w ++ more) = rw length-append (omega arith) in
-      let first : not (eqb (getD (w ++ more) 0 0) 0x0040) ≡ false = ap (λ (n : ℕ). not (eqb n 0x0040)) (front 0 (omega arith)) ∙ clear-6 .1 .0 in
-      let spare : spareSet (w ++ more) ≡ false = rw (front 3 (omega arith), front 4 (omega arith)) (clear-6 .1 .1 .1 .1 .0) in (
-        le-ltb _ _ long,
-        (
-          first,
-          (
-            same-refusal 3 (namedIn (w ++ more)) (namedIn w) same-command ∙ clear-6 .1 .1 .0,
-            (same-refusal 4 (namedIn (w ++ more)) (namedIn w) same-command ∙ clear-6 .1 .1 .1 .0, (spare, tt)),
-          ),
-        ),
-      )
+  due-still : blockLength (commandIn (w ++ more)) ≡ blockLength (commandIn w)
+  due-still = same-due (w ++ more) w long front
 
   added-6 : (t : Bool) → ltb (length more) (5 + blockLength (commandIn w) - length w) ≡ t → eqb (answerNumber (answered (w ++ more) p)) 6 ≡ t
   unfolding readRules
   added-6 true h =
       let l = short w p q e in
       let m = ltb-true (length more) (5 + blockLength (commandIn w) - length w) h in
-      let s : length (w ++ more) < 5 + blockLength (commandIn (w ++ more)) = rw (same-due, length-append) (omega arith) in
-      ap (λ (a : Answer Command). eqb (answerNumber a) 6) (row-answered (w ++ more) p 5 clear-still (lt-ltb _ _ s))
+      let s : length (w ++ more) < 5 + blockLength (commandIn (w ++ more)) = rw (due-still, length-append) (omega arith) in
+      ap (λ (a : Answer Command). eqb (answerNumber a) 6) (row-answered (w ++ more) p 5 (clear-five (w ++ more) w long front p clear-6) (lt-ltb _ _ s))
   added-6 false h =
       not-number (answered (w ++ more) p) 6 (omega arith)
       (λ r d.
       let m = ltb-false (length more) (5 + blockLength (commandIn w) - length w) h in
-      let s : length w + length more < 5 + blockLength (commandIn w) = rw (same-due, length-append) at (short (w ++ more) p r d) in
+      let s : length w + length more < 5 + blockLength (commandIn w) = rw (due-still, length-append) at (short (w ++ more) p r d) in
       omega arith)
 
 pub missing-6 : (w : List ℕ) (p : Present) (q : ℕ) → answered w p ≡ refused 6 q → TrueMissing w p 6 (5 + blockLength (commandIn w) - length w)

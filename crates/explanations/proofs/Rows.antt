@@ -1,12 +1,12 @@
 -- Rows of a table of refusals: which one is given, and what the rows before it say.
 -- Assumes nothing.
-use Prim.Native.Nat.{ℕ, zero, suc, _<_, _≤_}
-use mathlib.Core.Path.{_≡_, refl, sym, ap, _∙_}
-use mathlib.Core.Bool.{Bool, true, false, _&&_, _||_, true≢false, false≢true, or-true}
+use Prim.Native.Nat.{ℕ, zero, suc}
+use mathlib.Core.Path.{_≡_, refl}
+use mathlib.Core.Bool.{Bool, true, false, _&&_, _||_, false≢true, or-true}
 use mathlib.Core.List.{List, [], _∷_}
-use mathlib.Core.Logic.{_⊎_, inl, inr}
+use mathlib.Core.Logic.{inl, inr}
 use native.Mathlib.Omega.{arith}
-use lib.Dec.{T, ltb, eqb, ltb→lt}
+use lib.Dec.{T, ltb, eqb}
 use lib.ListN.{take, getD}
 use borrow.Author.Tests.{ltb-true, eq-eqb}
 use Rattle.refusals.specs.Tables.{Rule, rule, refused, lowest}

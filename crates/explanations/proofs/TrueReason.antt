@@ -2,16 +2,16 @@
 -- Assumes nothing.
 use Prim.Native.Nat.{ℕ}
 use mathlib.Core.Path.{_≡_, refl, sym, ap, subst, _∙_}
-use mathlib.Core.Bool.{Bool, true, false, not, _&&_, false≢true}
+use mathlib.Core.Bool.{true, false, not, false≢true}
 use mathlib.Core.List.{List}
-use mathlib.Core.Logic.{_⊎_, inl, inr}
+use mathlib.Core.Logic.{inl, inr}
 use native.Mathlib.Omega.{arith}
 use borrow.Author.Tests.{not-true}
 use Rattle.refusals.specs.Tables.{Answer, given, refused, answerNumber}
 use Rattle.refusals.proofs.Tables.{Applies}
 use Rattle.commands.specs.declared.Command.{Command}
 use Rattle.commands.specs.declared.Command.the-variants.{Read, Write, Start, Stop, Ping, CrateReset}
-use Rattle.command_reader.specs.Reading.{commandIn, placeIn, readRules}
+use Rattle.command_reader.specs.Reading.{commandIn, readRules}
 use Rattle.acceptance.specs.Acceptance.{notFresh as withoutFresh}
 use Rattle.acceptance.proofs.Deciding.{obeyed-named}
 use Rattle.run.specs.Run.{isFresh}

@@ -1,8 +1,8 @@
 -- 02, c: where one word is named, it is the word at fault, the lowest, and the numbers said to be allowed there are those that remove the refusal.
 -- Assumes nothing.
 use Prim.Native.Nat.{ℕ, _+_, _<_, _≤_}
-use mathlib.Core.Path.{_≡_, refl, sym, ap, ap₂, subst, _∙_}
-use mathlib.Core.Bool.{Bool, true, false, cond, not, _&&_, _||_, or-false, false≢true}
+use mathlib.Core.Path.{_≡_, refl, sym, ap, ap₂, _∙_}
+use mathlib.Core.Bool.{Bool, true, false, not, _&&_, _||_, or-false, false≢true}
 use mathlib.Core.List.{List, [], _∷_}
 use native.Mathlib.Omega.{arith}
 use lib.Dec.{ltb, leb, eqb}
@@ -16,9 +16,8 @@ use Rattle.commands.specs.declared.RunLength.the-variants.{Endless, Counted}
 use Rattle.commands.specs.declared.Command.{Command}
 use Rattle.commands.specs.declared.Command.the-variants.{Read, Write, Start, Stop, Ping, CrateReset}
 use Rattle.command_reader.specs.Reading.{countIn, namedIn, isRefusal, commandIn, spareSet, readRules}
-use Rattle.acceptance.specs.Acceptance.{decided}
 use Rattle.explanations.specs.Explaining.{member, isAllowed, range, allowedAt, spareAt}
-use Rattle.explanations.specs.TrueReason.{answered, names, TrueWord}
+use Rattle.explanations.specs.TrueReason.{answered, TrueWord}
 use Rattle.explanations.specs.declared.Present.{Present}
 use Rattle.explanations.proofs.Rows.{and-left, and-right, clear-below}
 use Rattle.explanations.proofs.Answers.{rulesIn, row-answered, applies-here, none-below, not-named, is-named}

@@ -1,12 +1,11 @@
 // Why the first command of a stream's words is accepted or refused (02, c): what the operator is told.
 ghost use mathlib.Core.Path.{_≡_};
-ghost use mathlib.Core.List.{[]};
-ghost use Prim.Native.Nat.{_+_, _-_, _≤_};
-ghost use lib.ListN.{length, getD, replicate};
+ghost use Prim.Native.Nat.{_-_};
+ghost use lib.ListN.{getD, replicate};
 ghost use Rattle.refusals.specs.Tables.{refusalMeaning};
 ghost use Rattle.commands.specs.Commands.{blockLength, parametersOf};
 ghost use Rattle.command_reader.specs.Reading.{commandIn};
-ghost use Rattle.explanations.specs.Explaining.{activityOf, statusIn, spareAt, wordAt, explainedBy, explained, inEight, Explains};
+ghost use Rattle.explanations.specs.Explaining.{activityOf, statusIn, spareAt, wordAt, explainedBy, explained, Explains};
 ghost use Rattle.explanations.specs.CodeShape.{Lists};
 use acceptance::CommandAnswer;
 use acceptance::Status;

@@ -12,7 +12,6 @@ use Rattle.refusals.specs.Tables.{Answer, given, refused, answerNumber}
 use Rattle.commands.specs.Commands.{isWrite}
 use Rattle.commands.specs.declared.Command.{Command}
 use Rattle.commands.specs.declared.Command.the-variants.{Read, Write, Start, Stop, CrateReset}
-use Rattle.command_reader.specs.Reading.{commandIn}
 use Rattle.acceptance.specs.Acceptance.{answerMeaning, decided}
 use Rattle.acceptance.specs.declared.Status.{Status}
 use Rattle.acceptance.proofs.Deciding.{by-state}
@@ -23,12 +22,11 @@ use Rattle.crate_pass.specs.Crate.{isRatePass}
 use Rattle.crate_pass.specs.declared.PassKind.{PassKind}
 use Rattle.crate_pass.specs.declared.PassKind.the-variants.{Reprogramming, Ping, Rates}
 use Rattle.four_crates.specs.FourCrates.{inPass}
-use Rattle.explanations.specs.Explaining.{activityOf, statusIn, AllowedThere, Explained, accepted, missing, atFault, inState, notFresh}
-use Rattle.explanations.specs.Explaining.{explainedNumber, explainedBy, explained, explanationMeaning, Explains}
-use Rattle.explanations.specs.TrueReason.{answered, names, put, True, TrueReason}
+use Rattle.explanations.specs.Explaining.{activityOf, statusIn, AllowedThere, Explained, missing, atFault, inState, notFresh}
+use Rattle.explanations.specs.Explaining.{explainedNumber, explanationMeaning, Explains}
+use Rattle.explanations.specs.TrueReason.{answered, names, True}
 use Rattle.explanations.specs.declared.Explanation.{Explanation}
-use Rattle.explanations.specs.declared.Activity.{Activity}
-use Rattle.explanations.specs.declared.Activity.the-variants.{Idle, Running, InPass, RunningInPass}
+use Rattle.explanations.specs.declared.Activity.the-variants.{RunningInPass}
 use Rattle.explanations.proofs.Answers.{explained-is}
 use Rattle.explanations.proofs.TrueReason.{true-reason}
 use Rattle.board.specs.State.{statusOf, freshBoard}
@@ -36,11 +34,11 @@ use Rattle.board.specs.Commands.{boardAnswer, Obeys}
 use Rattle.board.specs.Explaining.{presentOf, explainedOn}
 use Rattle.board.specs.declared.Board.{Board}
 use Rattle.board.specs.declared.CommandResult.{CommandResult}
-use Rattle.reachable.specs.Calls.{Call, afterCall, afterAll}
+use Rattle.reachable.specs.Calls.{Call, afterAll}
 use Rattle.reachable.specs.Reachable.{Reachable}
 use Rattle.reachable.proofs.OneCall.{false≢true}
 use Rattle.reachable.proofs.Freshness.{usedOn, usedAfter, after-calls}
-use Rattle.reachable.specs.Why.{TrueWordOfCalls, TrueOfCalls, acceptedBy, acceptedIn, anyWrite, firstUse, freshnessBy, startExplained, StartExplained}
+use Rattle.reachable.specs.Why.{TrueWordOfCalls, TrueOfCalls, acceptedIn, anyWrite, firstUse, freshnessBy, startExplained, StartExplained}
 
 -- ---- the board's state is what a command is decided by
 

@@ -2,7 +2,6 @@
 use mathlib.Core.Path.{refl}
 use Rattle.commands.specs.Commands.{parametersOf}
 use Rattle.explanations.proofs.Saying.{parameters-are, no-parameters}
-use borrow.Author.Needs.{needs}
 use Rattle.explanations.proofs.parameters_of.Statement.{statement}
 use Rattle.explanations.proofs.parameters_of.Tie as tie
 
