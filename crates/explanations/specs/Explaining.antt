@@ -87,7 +87,8 @@ explainedNumber (notFresh f) = 10
 abbrev pub position : ℕ → ℕ → ℕ
 position n place = cond (eqb n 8) (5 + place) place
 
--- the first place that the refusal is about: 2 word 0; 3 the ID; 4 the parameter; 5 "word 3 or 4"; 7 "X's first word, place 5"; 8 the block
+-- the first place that the refusal is about: 2 word 0; 3 the ID; 4 the parameter; 5 "word 3 or 4"; 7 "X's first word, place 5"; 8 the block. (The list
+-- begins at 0; 0, 1 and 6 are about no word)
 abbrev pub firstPlace : ℕ → ℕ
 firstPlace n = getD (0 ∷ 0 ∷ 0 ∷ 1 ∷ 2 ∷ 3 ∷ 0 ∷ 5 ∷ 0 ∷ []) n 0
 
