@@ -3,7 +3,7 @@
 
 #[link(name = "exports", kind = "static")]
 extern "C" {
-    fn ftm_crc(bytes: *const u8, length: usize) -> u8;
+    fn ftm_crc(start: u8, bytes: *const u8, length: usize) -> u8;
     fn ftm_read_command(words: *const u16, length: usize) -> u8;
     fn ftm_commands(
         words: *const u16,
@@ -85,8 +85,8 @@ fn counted(call: impl FnOnce(*mut u64, usize) -> u8) -> Counted {
     }
 }
 
-pub fn crc(bytes: &[u8]) -> u8 {
-    unsafe { ftm_crc(bytes.as_ptr(), bytes.len()) }
+pub fn crc(start: u8, bytes: &[u8]) -> u8 {
+    unsafe { ftm_crc(start, bytes.as_ptr(), bytes.len()) }
 }
 
 pub fn read_command(words: &[u16]) -> u8 {

@@ -216,7 +216,7 @@ fn good_reply(frame: &[u8; frames::BYTES]) -> [u8; frames::BYTES] {
             bytes.copy_from_slice(&count.to_be_bytes());
         }
     }
-    reply[frames::BYTES - 1] = crc8(&reply[..frames::BYTES - 1]);
+    reply[frames::BYTES - 1] = crc8(frames::CRC_START, &reply[..frames::BYTES - 1]);
     reply
 }
 
@@ -275,7 +275,8 @@ fn formats(write: &[u16]) {
     for (what, bytes, count) in
         [("CRC of 28 bytes", &bytes[..28], 20000), ("CRC of 64 KiB", &bytes[..], 10)]
     {
-        row(what, times(count, || exports::crc(black_box(bytes)), || crc8(black_box(bytes))));
+        let proved = || exports::crc(frames::CRC_START, black_box(bytes));
+        row(what, times(count, proved, || crc8(frames::CRC_START, black_box(bytes))));
     }
     for (what, words) in [("read a command, a read", &READ[..]), ("read a command, a write", write)]
     {
@@ -392,6 +393,17 @@ fn lent_bytes(write: &[u16], Replies { writes, rates, .. }: &Replies) {
     }
 }
 
+/// Both give the same CRC from every start, of bytes of every length up to 64.
+fn checksums() {
+    let bytes: Vec<u8> = (0..64u8).map(|i| i.wrapping_mul(151) ^ 0x5A).collect();
+    for start in 0..=u8::MAX {
+        for length in 0..=bytes.len() {
+            let bytes = &bytes[..length];
+            assert_eq!(exports::crc(start, bytes), crc8(start, bytes));
+        }
+    }
+}
+
 /// Both refuse alike, and leave what was lent as it was.
 fn refusals(write: &[u16]) {
     let (stop, twice) = (&STOP[..], [&READ[..], &STOP[..]].concat());
@@ -411,6 +423,7 @@ fn refusals(write: &[u16]) {
         assert_eq!((proved, frame), (plain::time_ups(words, &items, &mut other), other));
     }
     assert_eq!((exports::packets(&[0; 8]), plain::packets(&[0; 8])), (Err(13), Err(13)));
+    assert_eq!((exports::packets(&[0; 7]), plain::packets(&[0; 7])), (Ok(0), Ok(0)));
     let run = run_commands();
     for (words, room, refusal) in [(&run[..], 3, 19), (&twice, 4, 9), (stop, 3, 9)] {
         let (mut numbers, mut packets) = (vec![5; room], vec![5; 7 * room]);
@@ -424,6 +437,7 @@ fn refusals(write: &[u16]) {
 
 fn main() {
     let write = write_command();
+    checksums();
     refusals(&write);
     let replies = Replies::new(&write);
     lent_bytes(&write, &replies);

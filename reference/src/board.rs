@@ -499,7 +499,7 @@ mod tests {
     fn good(board: &Board, crate_number: u8) -> Frame {
         let mut reply = board.outstanding_step(crate_number).unwrap().1.frame;
         reply.swap(1, 2);
-        reply[27] = crc8(&reply[..27]);
+        reply[27] = crc8(frames::CRC_START, &reply[..27]);
         reply
     }
 
@@ -679,7 +679,7 @@ mod tests {
                 let mut reply = good(&board, crate_number);
                 reply[12] = number;
                 reply[26] = 0xEE;
-                reply[27] = crc8(&reply[..27]);
+                reply[27] = crc8(frames::CRC_START, &reply[..27]);
                 board.reply(crate_number, &reply, &mut [0; 28]).unwrap();
             }
         }
@@ -1032,7 +1032,7 @@ mod tests {
         }
         reply[25] = rates.overflow;
         reply[26] = rates.crc_errors;
-        reply[27] = crc8(&reply[..27]);
+        reply[27] = crc8(frames::CRC_START, &reply[..27]);
         reply
     }
 

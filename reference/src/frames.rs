@@ -11,6 +11,8 @@ pub type Frame = [u8; BYTES];
 pub const DELIMITER: u8 = 0x40;
 /// The trigger master's own address.
 pub const OUR_ADDRESS: u8 = 192;
+/// The start of the CRC of frames and replies (01, Trigger packets; 02, g).
+pub const CRC_START: u8 = 0x00;
 
 /// Code of the frame with the five DACs.
 pub const DACS: u8 = 1;
@@ -44,7 +46,7 @@ pub fn write(crate_number: usize, board: usize, code: u8, words: &[u16]) -> Fram
     for (place, word) in data.iter().enumerate() {
         frame[5 + 2 * place..7 + 2 * place].copy_from_slice(&word.to_be_bytes());
     }
-    frame[27] = crc8(&frame[..27]);
+    frame[27] = crc8(CRC_START, &frame[..27]);
     frame
 }
 
@@ -86,7 +88,7 @@ pub fn good_reply<'a>(sent: &Frame, reply: &'a [u8]) -> Option<&'a Frame> {
         && reply[1] == sent[2]
         && reply[2] == sent[1]
         && reply[4] == sent[4]
-        && reply[27] == crc8(&reply[..27]);
+        && reply[27] == crc8(CRC_START, &reply[..27]);
     let data = match sent[4] {
         PING => dna(reply) < ID_LIMIT && reply[13..26].iter().all(|&byte| byte == 0),
         RATES => rates(reply).counts.iter().all(|&count| count < RATE_LIMIT),
@@ -102,7 +104,7 @@ mod tests {
     fn exchange(sent: &Frame) -> Frame {
         let mut reply = *sent;
         reply.swap(1, 2);
-        reply[27] = crc8(&reply[..27]);
+        reply[27] = crc8(CRC_START, &reply[..27]);
         reply
     }
 
@@ -113,7 +115,7 @@ mod tests {
         assert_eq!(frame[..5], [0x40, 0x23, 192, 0, 1]);
         assert_eq!(frame[5..15], [0x10, 0x11, 0x12, 0x13, 0x14, 0x15, 0x16, 0x17, 0x18, 0x19]);
         assert!(frame[15..27].iter().all(|&byte| byte == 0));
-        assert_eq!(frame[27], crc8(&frame[..27]));
+        assert_eq!(frame[27], crc8(CRC_START, &frame[..27]));
         let frame = write(0, 0, ENABLES, &words);
         assert_eq!(frame[5..14], [0, 1, 0, 2, 0, 3, 4, 5, 0]);
         let frame = write(0, 0, PRESCALING, &words);
@@ -124,7 +126,7 @@ mod tests {
         let frame = write(1, 2, RATES, &words);
         assert_eq!(frame[..5], [0x40, 0x12, 192, 0, 5]);
         assert!(frame[5..27].iter().all(|&byte| byte == 0));
-        assert_eq!(frame[27], crc8(&frame[..27]));
+        assert_eq!(frame[27], crc8(CRC_START, &frame[..27]));
     }
 
     #[test]
@@ -138,8 +140,21 @@ mod tests {
             let mut changed = reply;
             changed[place] ^= 0x10;
             assert!(good_reply(&sent, &changed).is_none());
-            changed[27] = crc8(&changed[..27]);
+            changed[27] = crc8(CRC_START, &changed[..27]);
             assert_eq!(good_reply(&sent, &changed).is_some(), place == 3 || place == 26);
+        }
+    }
+
+    /// A reply whose CRC has any start but that of frames is bad, for every code.
+    #[test]
+    fn start_of_the_crc() {
+        for code in [DACS, ENABLES, PRESCALING, PING, RATES] {
+            let sent = write(2, 5, code, &[1, 2, 3, 4, 5, 6, 7, 8, 9, 10]);
+            for start in 0..=255 {
+                let mut reply = exchange(&sent);
+                reply[27] = crc8(start, &reply[..27]);
+                assert_eq!(good_reply(&sent, &reply).is_some(), start == 0x00);
+            }
         }
     }
 
@@ -148,14 +163,14 @@ mod tests {
         let sent = write(1, 7, PING, &[0; 10]);
         let mut reply = exchange(&sent);
         reply[5..13].copy_from_slice(&(ID_LIMIT - 1).to_be_bytes());
-        reply[27] = crc8(&reply[..27]);
+        reply[27] = crc8(CRC_START, &reply[..27]);
         assert_eq!(good_reply(&sent, &reply).map(dna), Some(ID_LIMIT - 1));
         reply[5..13].copy_from_slice(&ID_LIMIT.to_be_bytes());
-        reply[27] = crc8(&reply[..27]);
+        reply[27] = crc8(CRC_START, &reply[..27]);
         assert!(good_reply(&sent, &reply).is_none());
         reply[5..13].fill(0);
         reply[13] = 1;
-        reply[27] = crc8(&reply[..27]);
+        reply[27] = crc8(CRC_START, &reply[..27]);
         assert!(good_reply(&sent, &reply).is_none());
     }
 
@@ -166,7 +181,7 @@ mod tests {
             reply[5 + 4 * place..9 + 4 * place].copy_from_slice(&count.to_be_bytes());
         }
         [reply[25], reply[3], reply[26]] = free;
-        reply[27] = crc8(&reply[..27]);
+        reply[27] = crc8(CRC_START, &reply[..27]);
         reply
     }
 
@@ -207,7 +222,7 @@ mod tests {
             let mut changed = reply;
             changed[place] ^= 1;
             assert!(good_reply(&sent, &changed).is_none());
-            changed[27] = crc8(&changed[..27]);
+            changed[27] = crc8(CRC_START, &changed[..27]);
             let free = place == 3 || place >= 5;
             assert_eq!(good_reply(&sent, &changed).is_some(), free, "byte {place}");
         }

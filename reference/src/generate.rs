@@ -344,7 +344,7 @@ fn good_reply(random: &mut Random, sent: &Frame) -> Frame {
     if random.chance(60) {
         reply[26] = random.byte();
     }
-    mend(&mut reply);
+    mend(frames::CRC_START, &mut reply);
     reply
 }
 
@@ -385,10 +385,20 @@ fn put_count_at_its_bound(random: &mut Random, reply: &mut Frame) {
     reply[place..place + 4].copy_from_slice(&count.to_be_bytes());
 }
 
-/// Makes the last byte the CRC of those before it.
-fn mend(bytes: &mut [u8]) {
+/// Makes the last byte the CRC, from this start, of those before it.
+fn mend(start: u8, bytes: &mut [u8]) {
     if let Some((last, others)) = bytes.split_last_mut() {
-        *last = crc8(others);
+        *last = crc8(start, others);
+    }
+}
+
+/// A start of the CRC that is not `right`, 0x00 or 0xFF: mostly the other of these
+/// (02, g).
+fn wrong_start(random: &mut Random, right: u8) -> u8 {
+    if random.chance(60) {
+        !right
+    } else {
+        right ^ (1 + random.below(255)) as u8
     }
 }
 
@@ -396,11 +406,19 @@ fn mend(bytes: &mut [u8]) {
 /// one of another time where there is none.
 fn frame_for(random: &mut Random, script: &Script, crate_number: u8) -> Frame {
     script.frame(crate_number).copied().unwrap_or_else(|| {
-        let crate_number = usize::from(crate_number) % CRATES;
-        let code = some_code(random);
-        let number = random.below(BOARDS_PER_CRATE);
-        frames::for_board(script.board().block(), crate_number, number, code)
+        some_frame(random, script.board().block(), usize::from(crate_number) % CRATES)
     })
+}
+
+/// A frame of any step of any board of this crate.
+fn some_frame(
+    random: &mut Random,
+    block: &[u16; configuration::WORDS],
+    crate_number: usize,
+) -> Frame {
+    let code = some_code(random);
+    let number = random.below(BOARDS_PER_CRATE);
+    frames::for_board(block, crate_number, number, code)
 }
 
 /// A reply that is probably bad: one thing is wrong in an otherwise good one.
@@ -410,22 +428,19 @@ fn odd_reply(random: &mut Random, script: &Script, crate_number: u8) -> Vec<u8> 
     let mut reply = good_reply(random, &sent);
     if sent[4] == frames::RATES && random.chance(40) {
         put_count_at_its_bound(random, &mut reply);
-        mend(&mut reply);
+        mend(frames::CRC_START, &mut reply);
         return reply.to_vec();
     }
-    match random.below(14) {
+    match random.below(15) {
         // One byte changed, the CRC left.
         0 => reply[random.below(28)] ^= 1 << random.below(8),
         1 => reply[random.below(28)] = random.byte(),
         5 => return other_length(random, &reply),
         // Data of another step, or of another board.
         8 => {
-            let code = some_code(random);
             let crate_of = random.below(CRATES);
-            let number = random.below(BOARDS_PER_CRATE);
-            let other = frames::for_board(block, crate_of, number, code);
-            reply[5..26].copy_from_slice(&other[5..26]);
-            mend(&mut reply);
+            reply[5..26].copy_from_slice(&some_frame(random, block, crate_of)[5..26]);
+            mend(frames::CRC_START, &mut reply);
         }
         // A whole reply of another step of this board.
         9 => {
@@ -436,9 +451,10 @@ fn odd_reply(random: &mut Random, script: &Script, crate_number: u8) -> Vec<u8> 
             reply = good_reply(random, &other);
         }
         13 => return some_bytes(random),
+        14 => mend(wrong_start(random, frames::CRC_START), &mut reply),
         kind => {
             change(random, &mut reply, kind);
-            mend(&mut reply);
+            mend(frames::CRC_START, &mut reply);
         }
     }
     reply.to_vec()
@@ -482,11 +498,11 @@ fn other_length(random: &mut Random, good: &Frame) -> Vec<u8> {
         reply.truncate(random.below(28));
     } else if random.chance(50) {
         reply.truncate(27);
-        mend(&mut reply);
+        mend(frames::CRC_START, &mut reply);
     } else {
         reply.resize(29 + random.below(4), 0);
         if random.chance(50) {
-            mend(&mut reply);
+            mend(frames::CRC_START, &mut reply);
         }
     }
     reply
@@ -688,7 +704,7 @@ fn reply_lengths(random: &mut Random, script: &mut Script) {
                 reply[28..].fill_with(|| random.byte());
             }
             if random.chance(30) {
-                mend(&mut reply);
+                mend(frames::CRC_START, &mut reply);
             }
             script.push(&bytes_line(b'F', &[crate_number]));
             script.push(&reply_line(crate_number, &reply));
@@ -1630,6 +1646,15 @@ mod tests {
         assert!(script.frame(0).is_some());
         script.push(&power_up_line(0, 0));
         assert!(script.frame(0).is_none());
+    }
+
+    #[test]
+    fn wrong_starts() {
+        let mut random = Random::new(4);
+        for right in [0x00, 0xFF] {
+            let starts: Vec<u8> = (0..10_000).map(|_| wrong_start(&mut random, right)).collect();
+            assert!((0..=255).all(|start| starts.contains(&start) == (start != right)));
+        }
     }
 
     #[test]

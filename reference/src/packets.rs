@@ -1,9 +1,11 @@
-//! Trigger packets of seven bytes, written and read (01, Trigger packets).
+//! Trigger packets of seven bytes, written and read (01, Trigger packets; 02, g).
 
 use crate::{crc::crc8, Refusal};
 
 /// Bytes of a packet.
 pub const BYTES: usize = 7;
+/// The start of the CRC of packets (02, g).
+pub const CRC_START: u8 = 0xFF;
 
 /// All fields of a packet but the number.
 #[derive(Clone, Copy, Debug, Default, PartialEq, Eq)]
@@ -39,14 +41,14 @@ pub fn write(number: u32, trigger: &Trigger, out: &mut [u8]) -> Result<(), Refus
         | u8::from(trigger.pedestal) << 2
         | u8::from(trigger.lp_2) << 1
         | u8::from(trigger.lp_1);
-    out[6] = crc8(&out[..6]);
+    out[6] = crc8(CRC_START, &out[..6]);
     Ok(())
 }
 
 /// Reads a packet: its number and its other fields. Refuses with 13, 14 or 15.
 pub fn read(bytes: &[u8]) -> Result<(u32, Trigger), Refusal> {
     let bytes: &[u8; BYTES] = bytes.try_into().map_err(|_| Refusal::PacketLength)?;
-    if crc8(&bytes[..6]) != bytes[6] {
+    if crc8(CRC_START, &bytes[..6]) != bytes[6] {
         return Err(Refusal::PacketChecksum);
     }
     let number = u32::from_le_bytes([bytes[0], bytes[1], bytes[2], bytes[3]]);
@@ -74,17 +76,49 @@ mod tests {
         out
     }
 
+    /// Those of 01, with the start of 02, g.
     #[test]
     fn examples_of_the_paper() {
         let zero = Trigger::default();
-        assert_eq!(packet(1, zero), [0x01, 0, 0, 0, 0, 0, 0x29]);
-        assert_eq!(packet(1, Trigger { n: 4, ..zero }), [0x01, 0, 0, 0, 0x10, 0, 0x7E]);
-        assert_eq!(packet(2, Trigger { pedestal: true, ..zero }), [0x02, 0, 0, 0, 0, 4, 0x4E]);
+        assert_eq!(packet(0, zero), [0, 0, 0, 0, 0, 0, 0xAF]);
+        assert_eq!(packet(1, zero), [0x01, 0, 0, 0, 0, 0, 0x86]);
+        assert_eq!(packet(1, Trigger { n: 4, ..zero }), [0x01, 0, 0, 0, 0x10, 0, 0xD1]);
+        assert_eq!(packet(2, Trigger { pedestal: true, ..zero }), [0x02, 0, 0, 0, 0, 4, 0xE1]);
+        assert_eq!(read(&[0, 0, 0, 0, 0, 0, 0xAF]), Ok((0, zero)));
         let mut out = [0; 7];
         assert_eq!(write(1, &Trigger { n: 40, ..zero }, &mut out), Ok(()));
         let kept = out;
         assert_eq!(write(1, &Trigger { n: 41, ..zero }, &mut out), Err(Refusal::PacketField));
         assert_eq!(out, kept);
+    }
+
+    /// A receiver with its cable pulled reads zeros.
+    #[test]
+    fn dead_cable() {
+        for length in 0..300 {
+            let expected =
+                if length == BYTES { Refusal::PacketChecksum } else { Refusal::PacketLength };
+            assert_eq!(read(&vec![0; length]), Err(expected));
+        }
+        assert_eq!(read(&[0xFF; BYTES]), Err(Refusal::PacketChecksum));
+    }
+
+    /// A packet whose CRC has any start but that of packets is refused with 14,
+    /// whatever its fields are.
+    #[test]
+    fn start_of_the_crc() {
+        for number in (0..32).map(|bit| 1 << bit).chain([0, 3, 70_000, 0x0102_0304, u32::MAX]) {
+            for type_1 in 0..=255u8 {
+                let [first, second, third, fourth] = number.to_le_bytes();
+                let type_2 = type_1.wrapping_mul(37).wrapping_add(first);
+                let mut bytes = [first, second, third, fourth, type_1, type_2, 0];
+                for start in 0..=255 {
+                    bytes[6] = crc8(start, &bytes[..6]);
+                    let refused = read(&bytes) == Err(Refusal::PacketChecksum);
+                    assert_eq!(refused, start != 0xFF);
+                }
+            }
+        }
     }
 
     #[test]
@@ -117,7 +151,7 @@ mod tests {
         assert_eq!(read(&[0; 8]), Err(Refusal::PacketLength));
         bytes[4] = 41 << 2;
         assert_eq!(read(&bytes), Err(Refusal::PacketChecksum));
-        bytes[6] = crc8(&bytes[..6]);
+        bytes[6] = crc8(CRC_START, &bytes[..6]);
         assert_eq!(read(&bytes), Err(Refusal::PacketField));
     }
 }

@@ -442,7 +442,7 @@ mod tests {
             "{write}\nC004000040002000000000000 0001\nG0400000000000000\nG0400000000000000\n\
              C00400004000100000000"
         );
-        assert_eq!(run(&run_script), "0 441 write\n0 7 start\n0 0100000010007E\n16\n10 5\n");
+        assert_eq!(run(&run_script), "0 441 write\n0 7 start\n0 010000001000D1\n16\n10 5\n");
     }
 
     #[test]
@@ -632,11 +632,14 @@ mod tests {
 
     #[test]
     fn packets_of_the_paper() {
-        let script = "X01000000000029\nX0100000010007E\nX0200000000044E\nX\nX010000001000\n\
-             X0100000010007F";
-        let expected =
-            "0 1 0 0 0 0 0 0 0 0\n0 1 4 0 0 0 0 0 0 0\n0 2 0 0 0 0 0 1 0 0\n13\n13\n14\n";
+        let script = "X01000000000086\nX010000001000D1\nX020000000004E1\nX000000000000AF\nX\n\
+             X010000001000\nX010000001000D0";
+        let expected = "0 1 0 0 0 0 0 0 0 0\n0 1 4 0 0 0 0 0 0 0\n0 2 0 0 0 0 0 1 0 0\n\
+             0 0 0 0 0 0 0 0 0 0\n13\n13\n14\n";
         assert_eq!(run(script), expected);
+        // Those of 01, which start at 0x00, and a dead cable (02, g).
+        let script = "X01000000000029\nX0100000010007E\nX0200000000044E\nX00000000000000";
+        assert_eq!(run(script), "14\n14\n14\n14\n");
         // Each field by itself: byte 4, byte 5, and the number's low byte first.
         for (bytes, printed) in [
             ([1, 2, 3, 4, 0xA0, 0x00], "67305985 40 0 0 0 0 0 0 0"),
@@ -648,7 +651,7 @@ mod tests {
             ([0xFF, 0xFF, 0xFF, 0xFF, 0x00, 0x01], "4294967295 0 0 0 0 0 0 0 1"),
         ] {
             let digits: String = bytes.iter().map(|byte| format!("{byte:02X}")).collect();
-            let crc = crate::crc::crc8(&bytes);
+            let crc = crate::crc::crc8(0xFF, &bytes);
             assert_eq!(run(&format!("X{digits}{crc:02X}")), format!("0 {printed}\n"));
         }
     }

@@ -6,6 +6,7 @@ use board::PassBegun;
 use board::power_up;
 use crate_pass::Outcome;
 use crate_pass::ReplyAnswer;
+use crc::FRAME_START;
 use crc::crc8;
 use four_crates::FramesSent;
 use four_crates::in_pass;
@@ -63,7 +64,7 @@ fn exchanged(frame: [u8; 28]) -> [u8; 28] {
     let to = f[1];
     f[1] = f[2];
     f[2] = to;
-    let sum = crc8(&f[..27]);
+    let sum = crc8(FRAME_START, &f[..27]);
     f[27] = sum;
     f
 }

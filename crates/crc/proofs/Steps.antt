@@ -8,15 +8,16 @@ use mathlib.Core.List.{List, [], _∷_}
 use native.Mathlib.Omega.{arith}
 use native.Mathlib.Numerals.{one-add}
 use native.Mathlib.Nat.{add-zero, zero-mul, one-mul, mod-lt}
-use lib.Bits.{bitXor, xor-mod, xor-shr, xor-block, xor-shifted, xor-zero-l, xor-zero-r}
+use lib.Bits.{bitXor, xor-comm, xor-lt, xor-mod, xor-shr, xor-block, xor-shifted, xor-zero-r}
 use lib.Dec.{T, eqb, eqb→eq}
-use lib.ListN.{length, drop, getD, replicate, length-replicate, drop-of-length-le}
+use lib.ListN.{length, drop, getD, replicate, drop-of-length-le}
 use lib.Pow.{pow-pos, shr-lt, split}
 use lib.Seq.{drop-cons}
-use Rattle.crc.specs.Crc.{crcByte, crcFrom, crc}
+use Rattle.crc.specs.Crc.{crcByte, crc}
 use Rattle.crc.specs.CodeShape.{crcWord}
 use Rattle.crc.proofs.Below.{allBelow, below}
 use Rattle.crc.proofs.Linear.{xors, crcByte-linear, crc-linear}
+use Rattle.crc.proofs.Starts.{start-met, start-adds}
 use Rattle.crc.proofs.Xor.{digit, xor-swap}
 
 -- as `crc_byte` computes it
@@ -28,11 +29,11 @@ byteStep x = bitXor (bitXor (byteFolded x) (byteFolded x * 2 % 256)) (byteFolded
 
 byteRight : ℕ → Bool
 unfolding crcByte
-byteRight x = eqb (byteStep x) (crc (x ∷ []))
+byteRight x = eqb (byteStep x) (crc 0 (x ∷ []))
 
-pub byte-step : (b : ℕ) → b < 256 → byteStep b ≡ crc (b ∷ [])
+pub byte-step : (b : ℕ) → b < 256 → byteStep b ≡ crc 0 (b ∷ [])
 unfolding byteRight crcByte
-byte-step b h = eqb→eq (byteStep b) (crc (b ∷ [])) (below byteRight 256 tt b h)
+byte-step b h = eqb→eq (byteStep b) (crc 0 (b ∷ [])) (below byteRight 256 tt b h)
 
 abbrev Linear : (ℕ → ℕ) → Type 0
 Linear F = (a b : ℕ) → F (bitXor a b) ≡ bitXor (F a) (F b)
@@ -118,7 +119,7 @@ abbrev pub foldedTwice : ℕ → ℕ
 foldedTwice w = foldedAt 16 2 4 (foldedOnce w)
 
 abbrev wordCrc : ℕ → ℕ
-wordCrc w = bitXor (crc (foldedTwice w / 2 ^ 8 % 2 ^ 8 ∷ [])) (foldedTwice w % 2 ^ 8)
+wordCrc w = bitXor (crc 0 (foldedTwice w / 2 ^ 8 % 2 ^ 8 ∷ [])) (foldedTwice w % 2 ^ 8)
 
 once-linear : Linear foldedOnce
 once-linear =
@@ -147,7 +148,7 @@ word-crc = agree wordCrc crcWord wordCrc-linear word-linear refl 32 (λ j h. eqb
 
 -- k bytes of 0 after a word
 abbrev later : ℕ → ℕ → ℕ
-later k w = crcFrom (crcWord w) (replicate k 0)
+later k w = crc (crcWord w) (replicate k 0)
 
 onRight : (ℕ → ℕ) → ℕ → ℕ → Bool
 unfolding crcWord crcByte
@@ -156,7 +157,7 @@ onRight F k j = eqb (crcWord (F (2 ^ j))) (later k (2 ^ j))
 module _ (F : ℕ → ℕ) (p : Linear F) (k : ℕ) (x : xors (replicate k 0) (replicate k 0) ≡ replicate k 0) where
   later-linear : Linear (later k)
   later-linear a b =
-      ap₂ crcFrom (word-linear a b) (sym x) ∙ crc-linear (crcWord a) (crcWord b) (replicate k 0) (replicate k 0) refl
+      ap₂ crc (word-linear a b) (sym x) ∙ crc-linear (crcWord a) (crcWord b) (replicate k 0) (replicate k 0) refl
 
   on : crcWord (F 0) ≡ later k 0 → T (allBelow (onRight F k) 32) → (w : ℕ) → w < 4294967296 → crcWord (F w) ≡ later k w
   unfolding onRight
@@ -183,7 +184,7 @@ fourOn-linear =
     (sum wordFolded (λ (w : ℕ). wordFolded w * 2 ^ 4 % 2 ^ 32) folded-linear (after wordFolded (λ (w : ℕ). w * 2 ^ 4 % 2 ^ 32) folded-linear (shl-linear 4)))
     (after wordFolded (λ (w : ℕ). w * 2 ^ 8 % 2 ^ 32) folded-linear (shl-linear 8))
 
-pub four-on-step : (w : ℕ) → w < 4294967296 → crcWord (fourOn w) ≡ crcFrom (crcWord w) (replicate 4 0)
+pub four-on-step : (w : ℕ) → w < 4294967296 → crcWord (fourOn w) ≡ crc (crcWord w) (replicate 4 0)
 unfolding onRight crcWord crcByte
 four-on-step = on fourOn fourOn-linear 4 refl refl tt
 
@@ -194,7 +195,7 @@ bytesOn k w = spread 4 8 (w * 2 ^ (8 * k) % 2 ^ 32) (w / 2 ^ (32 - 8 * k))
 bytesOn-linear : (k : ℕ) → Linear (bytesOn k)
 bytesOn-linear k = spread-linear 4 8 (λ (w : ℕ). w * 2 ^ (8 * k) % 2 ^ 32) (λ (w : ℕ). w / 2 ^ (32 - 8 * k)) (shl-linear (8 * k)) (shr-linear (32 - 8 * k))
 
-pub on-step : (k w : ℕ) → 1 ≤ k → k ≤ 3 → w < 4294967296 → crcWord (bytesOn k w) ≡ crcFrom (crcWord w) (replicate k 0)
+pub on-step : (k w : ℕ) → 1 ≤ k → k ≤ 3 → w < 4294967296 → crcWord (bytesOn k w) ≡ crc (crcWord w) (replicate k 0)
 unfolding onRight crcWord crcByte
 on-step zero w a b h = absurd (let z : ⊥ = omega arith in z)
 on-step (suc zero) w a b h = on (bytesOn 1) (bytesOn-linear 1) 1 refl refl tt w h
@@ -202,7 +203,7 @@ on-step (suc (suc zero)) w a b h = on (bytesOn 2) (bytesOn-linear 2) 2 refl refl
 on-step (suc (suc (suc zero))) w a b h = on (bytesOn 3) (bytesOn-linear 3) 3 refl refl tt w h
 on-step (suc (suc (suc (suc k)))) w a b h = absurd (let z : ⊥ = omega arith in z)
 
-pub word-of : (a b c d : ℕ) → a < 256 → b < 256 → c < 256 → d < 256 → crcWord (a * 16777216 + b * 65536 + c * 256 + d) ≡ crc (a ∷ b ∷ c ∷ d ∷ [])
+pub word-of : (a b c d : ℕ) → a < 256 → b < 256 → c < 256 → d < 256 → crcWord (a * 16777216 + b * 65536 + c * 256 + d) ≡ crc 0 (a ∷ b ∷ c ∷ d ∷ [])
 unfolding crcWord
 word-of a b c d ha hb hc hd =
     let w = a * 16777216 + b * 65536 + c * 256 + d in
@@ -262,8 +263,8 @@ six-crc =
     agree (λ (m : ℕ). sixRest (sixOnce m)) crcSix (after sixOnce sixRest sixOnce-linear sixRest-linear) crcSix-linear refl 48
     (λ j h. eqb→eq (sixRest (sixOnce (2 ^ j))) (crcSix (2 ^ j)) (below sixRight 48 tt j h))
 
-pub six-of : (a b c d e f : ℕ) → a < 256 → b < 256 → c < 256 → d < 256 → e < 256 → f < 256
-    → sixRest (spread 4 8 (d * 16777216 + e * 65536 + f * 256) (a * 65536 + b * 256 + c)) ≡ crc (a ∷ b ∷ c ∷ d ∷ e ∷ f ∷ [])
+six-of : (a b c d e f : ℕ) → a < 256 → b < 256 → c < 256 → d < 256 → e < 256 → f < 256
+    → sixRest (spread 4 8 (d * 16777216 + e * 65536 + f * 256) (a * 65536 + b * 256 + c)) ≡ crc 0 (a ∷ b ∷ c ∷ d ∷ e ∷ f ∷ [])
 six-of a b c d e f ha hb hc hd he hf =
     let w = a * 16777216 + b * 65536 + c * 256 + d in
     let m = w * 65536 + e * 256 + f in
@@ -276,61 +277,84 @@ six-of a b c d e f ha hb hc hd he hf =
     ∙ six-crc m (omega arith)
     ∙ ap₂ crcByte (ap₂ crcByte (ap crcWord ew ∙ word-of a b c d ha hb hc hd) ee) ef
 
--- the CRC goes on over bytes: the word as many bytes on is added to theirs
-zeros-added : (bs : List ℕ) → xors (replicate (length bs) 0) bs ≡ bs
-zeros-added [] = refl
-zeros-added (b ∷ bs) = ap₂ (λ (x : ℕ) (l : List ℕ). x ∷ l) (xor-zero-l b) (zeros-added bs)
+-- the start is added to the first byte
+start-added : (s a b c : ℕ) → b < 256 → c < 256 → bitXor (a * 65536 + b * 256 + c) (s * 65536) ≡ bitXor s a * 65536 + b * 256 + c
+start-added s a b c hb hc =
+    let low = b * 256 + c in
+    let l : a * 65536 + b * 256 + c ≡ a * 65536 + low = omega arith in
+    let r : s * 65536 ≡ s * 65536 + 0 = omega arith in
+    let back : bitXor s a * 65536 + low ≡ bitXor s a * 65536 + b * 256 + c = omega arith in
+    ap₂ bitXor l r
+    ∙ xor-block 16 a s low 0 (omega arith) (pow-pos 16)
+    ∙ ap₂ (λ (x y : ℕ). x * 65536 + y) (xor-comm a s) (xor-zero-r low)
+    ∙ back
 
-word-on : (w l v : ℕ) (bs : List ℕ) → crcWord l ≡ crcFrom (crcWord w) (replicate (length bs) 0) → crcWord v ≡ crc bs
-    → crcWord (bitXor l v) ≡ crcFrom (crcWord w) bs
-word-on w l v bs p q =
-    word-linear l v
-    ∙ ap₂ bitXor p q
-    ∙ sym (crc-linear (crcWord w) 0 (replicate (length bs) 0) bs (length-replicate (length bs) 0))
-    ∙ ap₂ crcFrom (xor-zero-r (crcWord w)) (zeros-added bs)
+pub six-from : (s a b c d e f : ℕ) → s < 256 → a < 256 → b < 256 → c < 256 → d < 256 → e < 256 → f < 256
+    → sixRest (spread 4 8 (d * 16777216 + e * 65536 + f * 256) (bitXor (a * 65536 + b * 256 + c) (s * 65536))) ≡ crc s (a ∷ b ∷ c ∷ d ∷ e ∷ f ∷ [])
+six-from s a b c d e f hs ha hb hc hd he hf =
+    ap (λ (t : ℕ). sixRest (spread 4 8 (d * 16777216 + e * 65536 + f * 256) t)) (start-added s a b c hb hc)
+    ∙ six-of (bitXor s a) b c d e f (xor-lt 8 s a hs ha) hb hc hd he hf
+    ∙ start-met s a (b ∷ c ∷ d ∷ e ∷ f ∷ [])
+
+-- the CRC goes on over bytes: the word as many bytes on is added to theirs
+word-on : (w l v : ℕ) (bs : List ℕ) → crcWord l ≡ crc (crcWord w) (replicate (length bs) 0) → crcWord v ≡ crc 0 bs
+    → crcWord (bitXor l v) ≡ crc (crcWord w) bs
+word-on w l v bs p q = word-linear l v ∙ ap₂ bitXor p q ∙ sym (start-adds (crcWord w) bs)
 
 -- the list from place i on begins with the byte there
 next : (s : List ℕ) (i k : ℕ) → i < length s → suc i ≡ k → drop i s ≡ getD s i 0 ∷ drop k s
 next s i k h e = rw (drop-cons s i 0, e)
 
-pub four-on : (s : List ℕ) (i w l v : ℕ) → i + 4 ≤ length s → crcWord l ≡ crcFrom (crcWord w) (replicate 4 0)
-    → crcWord v ≡ crc (getD s i 0 ∷ getD s (i + 1) 0 ∷ getD s (i + 2) 0 ∷ getD s (i + 3) 0 ∷ [])
-    → crcFrom (crcWord (bitXor l v)) (drop (i + 4) s) ≡ crcFrom (crcWord w) (drop i s)
+pub four-on : (s : List ℕ) (i w l v : ℕ) → i + 4 ≤ length s → crcWord l ≡ crc (crcWord w) (replicate 4 0)
+    → crcWord v ≡ crc 0 (getD s i 0 ∷ getD s (i + 1) 0 ∷ getD s (i + 2) 0 ∷ getD s (i + 3) 0 ∷ [])
+    → crc (crcWord (bitXor l v)) (drop (i + 4) s) ≡ crc (crcWord w) (drop i s)
 four-on s i w l v h p q =
     let e0 = next s i (i + 1) (omega arith) (omega arith) in
     let e1 = next s (i + 1) (i + 2) (omega arith) (omega arith) in
     let e2 = next s (i + 2) (i + 3) (omega arith) (omega arith) in
     let e3 = next s (i + 3) (i + 4) (omega arith) (omega arith) in
     let on = word-on w l v (getD s i 0 ∷ getD s (i + 1) 0 ∷ getD s (i + 2) 0 ∷ getD s (i + 3) 0 ∷ []) p q in
-    rw (e0, e1, e2, e3) (ap (λ (r : ℕ). crcFrom r (drop (i + 4) s)) on)
+    rw (e0, e1, e2, e3) (ap (λ (r : ℕ). crc r (drop (i + 4) s)) on)
 
 -- a byte of 0 leaves a register of 0 as it is
 unchanged : crcByte 0 0 ≡ 0
 unfolding crcByte
 unchanged = refl
 
+-- no byte leaves the start as it is
+pub none : (start : ℕ) (s : List ℕ) → length s ≡ 0 → start ≡ crc start s
+none start [] h = refl
+none start (b ∷ bs) h = absurd (let z : ⊥ = omega arith in z)
+
+-- the first byte, which the start is added to, taken by itself
+pub first-on : (start w : ℕ) (s : List ℕ) → 0 < length s → crcWord w ≡ crc 0 (0 ∷ 0 ∷ 0 ∷ bitXor start (getD s 0 0) ∷ [])
+    → crc (crcWord w) (drop 1 s) ≡ crc start s
+first-on start w [] h q = absurd (let z : ⊥ = omega arith in z)
+first-on start w (b ∷ bs) h q =
+    ap (λ (r : ℕ). crc r bs) (q ∙ rw (unchanged, unchanged, unchanged) (start-met start b []))
+
 module _ (s : List ℕ) (i w : ℕ) where
-  pub rest-none : length s ≤ i → crcWord w ≡ crcFrom (crcWord w) (drop i s)
+  pub rest-none : length s ≤ i → crcWord w ≡ crc (crcWord w) (drop i s)
   rest-none h = rw (drop-of-length-le s h)
 
   module _ (l v : ℕ) where
-    pub rest-one : length s ≡ i + 1 → crcWord l ≡ crcFrom (crcWord w) (replicate 1 0)
-        → crcWord v ≡ crc (0 ∷ 0 ∷ 0 ∷ getD s i 0 ∷ []) → crcWord (bitXor l v) ≡ crcFrom (crcWord w) (drop i s)
+    pub rest-one : length s ≡ i + 1 → crcWord l ≡ crc (crcWord w) (replicate 1 0)
+        → crcWord v ≡ crc 0 (0 ∷ 0 ∷ 0 ∷ getD s i 0 ∷ []) → crcWord (bitXor l v) ≡ crc (crcWord w) (drop i s)
     rest-one h p q =
         let e0 = next s i (i + 1) (omega arith) (omega arith) in
         let e = drop-of-length-le s {i = i + 1} (omega arith) in
         rw (e0, e) (word-on w l v (getD s i 0 ∷ []) p (rw (unchanged, unchanged, unchanged) at q))
 
-    pub rest-two : length s ≡ i + 2 → crcWord l ≡ crcFrom (crcWord w) (replicate 2 0)
-        → crcWord v ≡ crc (0 ∷ 0 ∷ getD s i 0 ∷ getD s (i + 1) 0 ∷ []) → crcWord (bitXor l v) ≡ crcFrom (crcWord w) (drop i s)
+    pub rest-two : length s ≡ i + 2 → crcWord l ≡ crc (crcWord w) (replicate 2 0)
+        → crcWord v ≡ crc 0 (0 ∷ 0 ∷ getD s i 0 ∷ getD s (i + 1) 0 ∷ []) → crcWord (bitXor l v) ≡ crc (crcWord w) (drop i s)
     rest-two h p q =
         let e0 = next s i (i + 1) (omega arith) (omega arith) in
         let e1 = next s (i + 1) (i + 2) (omega arith) (omega arith) in
         let e = drop-of-length-le s {i = i + 2} (omega arith) in
         rw (e0, e1, e) (word-on w l v (getD s i 0 ∷ getD s (i + 1) 0 ∷ []) p (rw (unchanged, unchanged) at q))
 
-    pub rest-three : length s ≡ i + 3 → crcWord l ≡ crcFrom (crcWord w) (replicate 3 0)
-        → crcWord v ≡ crc (0 ∷ getD s i 0 ∷ getD s (i + 1) 0 ∷ getD s (i + 2) 0 ∷ []) → crcWord (bitXor l v) ≡ crcFrom (crcWord w) (drop i s)
+    pub rest-three : length s ≡ i + 3 → crcWord l ≡ crc (crcWord w) (replicate 3 0)
+        → crcWord v ≡ crc 0 (0 ∷ getD s i 0 ∷ getD s (i + 1) 0 ∷ getD s (i + 2) 0 ∷ []) → crcWord (bitXor l v) ≡ crc (crcWord w) (drop i s)
     rest-three h p q =
         let e0 = next s i (i + 1) (omega arith) (omega arith) in
         let e1 = next s (i + 1) (i + 2) (omega arith) (omega arith) in

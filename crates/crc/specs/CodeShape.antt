@@ -5,4 +5,4 @@ use Rattle.crc.specs.Crc.{crc}
 
 -- the CRC of a word's bytes
 unfoldable pub crcWord : ℕ → ℕ
-crcWord w = crc (w / 16777216 ∷ w / 65536 % 256 ∷ w / 256 % 256 ∷ w % 256 ∷ [])
+crcWord w = crc 0 (w / 16777216 ∷ w / 65536 % 256 ∷ w / 256 % 256 ∷ w % 256 ∷ [])

@@ -1,11 +1,14 @@
-// 01's examples of the formats, worked by the code: each line names the example as 01 does, and gives what the code answered.
+// The examples of the formats in 01 and in 02, g, worked by the code: each line names the example as they do, and gives what the code answered.
 use command_reader::CommandRead;
 use command_reader::read_command;
 use commands::Command;
 use commands::RunLength;
 use configuration::begin_of;
+use crc::FRAME_START;
 use crc::crc8;
 use libc::STDOUT_FILENO;
+use packet_reader::PacketRead;
+use packet_reader::read_packet;
 use packets::Fields;
 use packets::Packet;
 use packets::write_packet;
@@ -128,6 +131,18 @@ fn packet(name: &[u8], number: u32, n: u8, pedestal: bool) {
     text(b"\n");
 }
 
+fn reading(name: &[u8], bytes: &[u8]) {
+    text(name);
+    match read_packet(bytes) {
+        PacketRead::Read(p) => {
+            text(b"number ");
+            decimal(p.number as u64);
+        }
+        PacketRead::Refused(r) => refusal(r),
+    }
+    text(b"\n");
+}
+
 fn main() {
     command(b"Four words: ", &[0x0040, 0x01, 1, 0]);
     command(b"Five, first 0x0041: ", &[0x0041, 0x01, 1, 0, 0]);
@@ -148,9 +163,12 @@ fn main() {
     packet(b"Number 1, all else zero: ", 1, 0, false);
     packet(b"Number 1, n = 4: ", 1, 4, false);
     packet(b"Number 2, pedestal: ", 2, 0, true);
+    packet(b"Six zero bytes: ", 0, 0, false);
+    reading(b"With 0xAF: ", &[0, 0, 0, 0, 0, 0, 0xAF]);
+    reading(b"Seven zero bytes: ", &[0, 0, 0, 0, 0, 0, 0]);
     packet(b"n = 40: ", 0, 40, false);
     packet(b"n = 41: ", 0, 41, false);
     text(b"The ASCII digits 1 to 9 have CRC 0x");
-    byte(crc8(b"123456789"));
+    byte(crc8(FRAME_START, b"123456789"));
     text(b"\n");
 }

@@ -35,12 +35,12 @@ use steps::Event;
 use stream::run_out;
 use words::copy_words;
 
-// The CRC of bytes.
+// The CRC of bytes from a start.
 #[no_mangle]
-pub extern "C" fn ftm_crc(bytes: &[u8]) -> u8
-    ensures { λ r. ⌜ r ≡ crc (now (bytes .entry)) ⌝ }
+pub extern "C" fn ftm_crc(start: u8, bytes: &[u8]) -> u8
+    ensures { λ r. ⌜ r ≡ crc start (now (bytes .entry)) ⌝ }
 {
-    crc8(bytes)
+    crc8(start, bytes)
 }
 
 // Reads the first command of words: a refusal's number, 0 where it is read.

@@ -7,7 +7,7 @@ use native.Mathlib.Omega.{arith}
 use lib.ListN.{length, take, getD, set, replicate, length-append, length-replicate}
 use lib.Seq.{length-take-le, take-at, getD-at, set-at}
 use Rattle.words.specs.Words.{bytesOf}
-use Rattle.crc.specs.Crc.{crc}
+use Rattle.crc.specs.Crc.{crc, frameStart}
 use Rattle.configuration.specs.declared.Settings.{Settings}
 use Rattle.frames.specs.Frames.{padded, withoutCrc, frameWith, wordsFor}
 use Rattle.frames.specs.CodeShape.{beforeCrc, fiveOf}
@@ -30,7 +30,7 @@ module _ (address number : ℕ) where
   module _ (s : Settings) (hd : length (s .dacs) ≡ 5) (he : length (s .enables) ≡ 4) (code : Code) where
     pub frame-five : frameWith address number (fiveOf (wordsFor code s)) ≡ frameWith address number (wordsFor code s)
     unfolding frameWith
-    frame-five = ap (λ (u : List ℕ). u ++ (crc u ∷ [])) (five-will s hd he code)
+    frame-five = ap (λ (u : List ℕ). u ++ (crc frameStart u ∷ [])) (five-will s hd he code)
 
     pub before-five : beforeCrc address number (fiveOf (wordsFor code s)) ≡ beforeCrc address number (wordsFor code s)
     unfolding beforeCrc
@@ -49,18 +49,18 @@ module _ (address number : ℕ) (w : List ℕ) where
   unfolding frameWith
   frame-length = length-append (withoutCrc address number w) _ ∙ ap (λ (n : ℕ). n + 1) length-without
 
-  pub frame-crc : crc (take 27 (frameWith address number w)) ≡ getD (frameWith address number w) 27 0
+  pub frame-crc : crc frameStart (take 27 (frameWith address number w)) ≡ getD (frameWith address number w) 27 0
   unfolding frameWith
   frame-crc =
       let u = withoutCrc address number w in
-      ap crc (take-at u (crc u ∷ []) 27 length-without) ∙ sym (getD-at u (crc u) [] 0 27 length-without)
+      ap (crc frameStart) (take-at u (crc frameStart u ∷ []) 27 length-without) ∙ sym (getD-at u (crc frameStart u) [] 0 27 length-without)
 
   -- the CRC goes into the place left for it
-  before-crc : crc (take 27 (beforeCrc address number w)) ≡ crc (withoutCrc address number w)
+  before-crc : crc frameStart (take 27 (beforeCrc address number w)) ≡ crc frameStart (withoutCrc address number w)
   unfolding beforeCrc
-  before-crc = ap crc (take-at (withoutCrc address number w) (0 ∷ []) 27 length-without)
+  before-crc = ap (crc frameStart) (take-at (withoutCrc address number w) (0 ∷ []) 27 length-without)
 
-  pub crc-stored : (x : ℕ) → x ≡ crc (take 27 (beforeCrc address number w)) → set (beforeCrc address number w) 27 x ≡ frameWith address number w
+  pub crc-stored : (x : ℕ) → x ≡ crc frameStart (take 27 (beforeCrc address number w)) → set (beforeCrc address number w) 27 x ≡ frameWith address number w
   unfolding beforeCrc frameWith
   crc-stored x e =
       let u = withoutCrc address number w in
@@ -71,4 +71,4 @@ module _ (address number : ℕ) (w : List ℕ) where
   unfolding beforeCrc frameWith
   before-is =
       let u = withoutCrc address number w in
-      ap (λ (l : List ℕ). l ++ (0 ∷ [])) (sym (take-at u (crc u ∷ []) 27 length-without))
+      ap (λ (l : List ℕ). l ++ (0 ∷ [])) (sym (take-at u (crc frameStart u ∷ []) 27 length-without))

@@ -1,9 +1,9 @@
--- 01, Slow control, and 02, i: "Our frames are 28 bytes, without a header".
+-- 01, Slow control, and 02, g and i: "Our frames are 28 bytes, without a header".
 use Prim.Native.Nat.{ℕ}
 use mathlib.Core.List.{List, [], _∷_, _++_}
 use lib.ListN.{take, replicate}
 use Rattle.words.specs.Words.{bytesOf}
-use Rattle.crc.specs.Crc.{crc}
+use Rattle.crc.specs.Crc.{crc, frameStart}
 use Rattle.configuration.specs.Configuration.{addressOf}
 use Rattle.configuration.specs.declared.Settings.{Settings}
 use Rattle.frames.specs.declared.Code.{Code}
@@ -34,9 +34,9 @@ padded n l = take n (l ++ replicate n 0)
 abbrev pub withoutCrc : ℕ → ℕ → List ℕ → List ℕ
 withoutCrc address code w = 0x40 ∷ address ∷ 192 ∷ 0 ∷ code ∷ padded 21 (bytesOf w) ++ (0 ∷ [])
 
--- "27 the CRC of 0 to 26"
+-- "27 the CRC of 0 to 26"; 02, g: "Slow-control frames stay at 0x00"
 unfoldable pub frameWith : ℕ → ℕ → List ℕ → List ℕ
-frameWith address code w = withoutCrc address code w ++ (crc (withoutCrc address code w) ∷ [])
+frameWith address code w = withoutCrc address code w ++ (crc frameStart (withoutCrc address code w) ∷ [])
 
 -- the frame of a code to board b of crate c
 abbrev pub frameOf : ℕ → ℕ → Code → Settings → List ℕ

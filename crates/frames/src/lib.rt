@@ -6,6 +6,7 @@ ghost use Rattle.frames.specs.Frames.{codeOf, wordsFor, frameWith, frame
 ghost use Rattle.frames.specs.CodeShape.{fiveOf, beforeCrc};
 use configuration::Settings;
 use configuration::address_of;
+use crc::FRAME_START;
 use crc::crc8;
 use numbers::word_bytes;
 
@@ -80,7 +81,7 @@ fn frame_with(address: u8, number: u8, w: [u16; 5]) -> [u8; 28]
     ensures { λ r. ⌜ r ≡ frameWith address number w ⌝ }
 {
     let mut f = before_crc(address, number, w);
-    let sum = crc8(&f[..27]);
+    let sum = crc8(FRAME_START, &f[..27]);
     f[27] = sum;
     f
 }

@@ -8,7 +8,7 @@ use native.Mathlib.Omega.{arith}
 use lib.ListN.{length, take, getD}
 use lib.Seq.{take-suc}
 use borrow.Author.Tests.{eq-eqb, ne-eqb}
-use Rattle.crc.specs.Crc.{crc}
+use Rattle.crc.specs.Crc.{crc, packetStart}
 use Rattle.refusals.specs.Tables.{given, refused}
 use Rattle.packets.specs.Packets.{inRange}
 use Rattle.packets.specs.declared.Fields.{Fields}
@@ -19,16 +19,19 @@ module _ (b : List ℕ) where
   unfolding packetAnswer readRules
   read-13 n = simp (ne-eqb _ _ n)
 
-  module _ (l : length b ≡ 7) (k : ℕ) (ek : k ≡ crc (getD b 0 0 ∷ getD b 1 0 ∷ getD b 2 0 ∷ getD b 3 0 ∷ getD b 4 0 ∷ getD b 5 0 ∷ [])) where
+  pub wrong-crc : length b ≡ 7 → (crc packetStart (take 6 b) ≡ getD b 6 0 → ⊥) → refused 14 0 ≡ packetAnswer b
+  unfolding packetAnswer readRules
+  wrong-crc l n = simp (eq-eqb _ _ l, ne-eqb _ _ n)
+
+  module _ (l : length b ≡ 7) (k : ℕ) (ek : k ≡ crc packetStart (getD b 0 0 ∷ getD b 1 0 ∷ getD b 2 0 ∷ getD b 3 0 ∷ getD b 4 0 ∷ getD b 5 0 ∷ [])) where
     -- the CRC that was computed is that of bytes 0 to 5
-    computed : crc (take 6 b) ≡ k
+    computed : crc packetStart (take 6 b) ≡ k
     computed =
         let next : (i : ℕ) → i < 7 → take (suc i) b ≡ take i b ++ (getD b i 0 ∷ []) = λ i h. take-suc b i 0 (omega arith) in
         rw (next 5 (omega arith), next 4 (omega arith), next 3 (omega arith), next 2 (omega arith), next 1 (omega arith), next 0 (omega arith)) (sym ek)
 
     pub read-14 : (k ≡ getD b 6 0 → ⊥) → refused 14 0 ≡ packetAnswer b
-    unfolding packetAnswer readRules
-    read-14 n = rw computed (simp (eq-eqb _ _ l, ne-eqb _ _ n))
+    read-14 n = wrong-crc l (λ e. n (sym computed ∙ e))
 
     module _ (q : k ≡ getD b 6 0) (f : Fields) (ef : f ≡ packetIn b .fields) (r : Bool) (er : r ≡ inRange f) where
       pub read-15 : not r ≡ true → refused 15 0 ≡ packetAnswer b

@@ -2,3 +2,4 @@
 pub mod Laws
 pub mod Tables
 pub mod Injective
+pub mod Starts

@@ -1,10 +1,10 @@
--- 01, Trigger packets, and the refusals 13 to 15: the packet in seven bytes.
+-- 01, Trigger packets, 02, g, and the refusals 13 to 15: the packet in seven bytes.
 use Prim.Native.Nat.{ℕ, _+_, _*_, _/_, _%_}
 use mathlib.Core.Bool.{Bool, not}
 use mathlib.Core.List.{List, [], _∷_}
 use lib.Dec.{eqb}
 use lib.ListN.{length, take, getD}
-use Rattle.crc.specs.Crc.{crc}
+use Rattle.crc.specs.Crc.{crc, packetStart}
 use Rattle.refusals.specs.Tables.{Answer, given, Rule, rule, lowest, refusalMeaning}
 use Rattle.packets.specs.Packets.{inRange}
 use Rattle.packets.specs.declared.Fields.{Fields}
@@ -51,7 +51,7 @@ readMeaning (Refused r) = refusalMeaning r
 unfoldable pub readRules : List ℕ → List Rule
 readRules b =
     rule 13 (not (eqb (length b) 7))
-    ∷ rule 14 (not (eqb (crc (take 6 b)) (getD b 6 0)))
+    ∷ rule 14 (not (eqb (crc packetStart (take 6 b)) (getD b 6 0)))
     ∷ rule 15 (not (inRange (packetIn b .fields)))
     ∷ []
 

@@ -1,6 +1,7 @@
 // The reader of trigger packets, for the far end.
 ghost use mathlib.Core.Path.{_≡_};
 ghost use Rattle.packet_reader.specs.Reading.{numberIn, fieldsIn, readMeaning, packetAnswer};
+use crc::PACKET_START;
 use crc::crc_of_six;
 use packets::Fields;
 use packets::Packet;
@@ -43,7 +44,16 @@ pub fn read_packet(bytes: &[u8]) -> PacketRead
     if bytes.len() != 7 {
         return PacketRead::Refused(Refusal::WrongPacketLength);
     }
-    if crc_of_six(bytes[0], bytes[1], bytes[2], bytes[3], bytes[4], bytes[5]) != bytes[6] {
+    let sum = crc_of_six(
+        PACKET_START,
+        bytes[0],
+        bytes[1],
+        bytes[2],
+        bytes[3],
+        bytes[4],
+        bytes[5],
+    );
+    if sum != bytes[6] {
         return PacketRead::Refused(Refusal::WrongPacketCrc);
     }
     let fields = fields_in(bytes[4], bytes[5]);

@@ -9,7 +9,7 @@ use lib.Dec.{leb}
 use lib.ListN.{length, getD, set}
 use lib.Seq.{sets-eq}
 use borrow.Author.Tests.{le-leb, lt-leb, leb-true, not-false}
-use Rattle.crc.specs.Crc.{crc}
+use Rattle.crc.specs.Crc.{crc, packetStart}
 use Rattle.refusals.specs.declared.Refusal.the-variants.{TriggerFieldOutOfRange, OutputTooShort}
 use Rattle.refusals.specs.declared.Written.{Written}
 use Rattle.refusals.specs.declared.Written.the-variants.{Length, Refused}
@@ -40,11 +40,12 @@ module _ (f : Fields) where
 abbrev front : ℕ → ℕ → ℕ → List ℕ
 front x t₁ t₂ = x % 256 ∷ x / 256 % 256 ∷ x / 256 / 256 % 256 ∷ x / 256 / 256 / 256 % 256 ∷ t₁ ∷ t₂ ∷ []
 
-pub packet-is : (x : ℕ) (f : Fields) (t₁ t₂ c : ℕ) → t₁ ≡ type1 f → t₂ ≡ type2 f → c ≡ crc (front x t₁ t₂) → front x t₁ t₂ ++ (c ∷ []) ≡ packetBytes x f
+pub packet-is : (x : ℕ) (f : Fields) (t₁ t₂ c : ℕ) → t₁ ≡ type1 f → t₂ ≡ type2 f → c ≡ crc packetStart (front x t₁ t₂)
+    → front x t₁ t₂ ++ (c ∷ []) ≡ packetBytes x f
 unfolding firstSix
 packet-is x f t₁ t₂ c e₁ e₂ ec =
     let e : front x t₁ t₂ ≡ firstSix x f = ap₂ (front x) e₁ e₂ in
-    ap₂ (λ (l : List ℕ) (y : ℕ). l ++ (y ∷ [])) e (ec ∙ ap crc e)
+    ap₂ (λ (l : List ℕ) (y : ℕ). l ++ (y ∷ [])) e (ec ∙ ap (crc packetStart) e)
 
 -- ---- the writer
 

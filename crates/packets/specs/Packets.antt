@@ -1,10 +1,10 @@
--- 01, Trigger packets (000, chapter 2): seven bytes, the last of which is the CRC of the others.
+-- 01, Trigger packets (000, chapter 2), and 02, g: seven bytes, the last of which is the CRC of the others.
 use Prim.Native.Nat.{ℕ, _+_, _*_, _/_, _%_, _^_, _<_}
 use mathlib.Core.Path.{_≡_}
 use mathlib.Core.Bool.{Bool, true, false, not, _&&_}
 use mathlib.Core.List.{List, [], _∷_, _++_}
 use lib.Dec.{leb}
-use Rattle.crc.specs.Crc.{crc}
+use Rattle.crc.specs.Crc.{crc, packetStart}
 use Rattle.refusals.specs.Tables.{Rule, rule}
 use Rattle.refusals.specs.Writing.{Wrote}
 use Rattle.refusals.specs.declared.Written.{Written}
@@ -31,9 +31,9 @@ firstSix number f =
     ∷ type2 f
     ∷ []
 
--- the seven bytes: "the CRC of bytes 0 to 5" comes last
+-- the seven bytes: "the CRC of bytes 0 to 5" comes last, from the start of 02, g
 abbrev pub packetBytes : ℕ → Fields → List ℕ
-packetBytes number f = firstSix number f ++ (crc (firstSix number f) ∷ [])
+packetBytes number f = firstSix number f ++ (crc packetStart (firstSix number f) ∷ [])
 
 -- "n is 0 to 40, the setting 0 to 15"
 abbrev pub inRange : Fields → Bool

@@ -11,9 +11,10 @@ use borrow.Author.Tests.{eqb-true, eqb-false, eq-eqb, ltb-true, lt-ltb}
 use lib.Dec.{T, eqb, ltb, ltb→lt}
 use lib.ListN.{length, getD, take, getD-replicate}
 use Rattle.numbers.specs.Numbers.{idLimit}
-use Rattle.crc.specs.Crc.{crc}
+use Rattle.crc.specs.Crc.{crc, frameStart}
+use Rattle.crc.proofs.Starts.{start-told}
 use Rattle.replies.specs.Replies.{sameFrom, zeros, dnaIn, pingData, countIn, countLimit, countsBelow, dataRight, conditions, allOf, goodReply}
-use Rattle.replies.proofs.Laws.{by-data, ping-zeros, rates-data, others}
+use Rattle.replies.proofs.Laws.{bad-crc, by-data, ping-zeros, rates-data, others}
 
 -- ---- of truth values
 
@@ -85,7 +86,7 @@ pub record Good (sent r : List ℕ) : Type 0 where
   pub destination : getD r 1 0 ≡ getD sent 2 0
   pub sender : getD r 2 0 ≡ getD sent 1 0
   pub code : getD r 4 0 ≡ getD sent 4 0
-  pub right-crc : crc (take 27 r) ≡ getD r 27 0
+  pub right-crc : crc frameStart (take 27 r) ≡ getD r 27 0
   pub equal : (IsPing sent → ⊥) → (AsksRates sent → ⊥) → Agree 5 26 sent r
   pub below : IsPing sent → dnaIn r < idLimit
   pub zeros-after : IsPing sent → (k : ℕ) → 13 ≤ k → k < 26 → getD r k 0 ≡ 0
@@ -127,14 +128,18 @@ module _ (sent r : List ℕ) where
           other n true f = let p = eqb-true _ _ f in sym (below-each 5 0 r (λ k l h. g .counts p k h)) ∙ rates-data sent r p
           other n false f = let m = eqb-false _ _ f in sym (agree-same 21 5 sent r (g .equal n m)) ∙ others sent r n m
 
+  -- "Slow-control frames stay at 0x00" (02, g): a CRC that is right from another start makes a reply bad
+  pub other-start : (s : ℕ) → s < 256 → (s ≡ frameStart → ⊥) → crc s (take 27 r) ≡ getD r 27 0 → goodReply sent r ≡ false
+  other-start s h n e = sym (bad-crc sent r (λ q. n (start-told s frameStart (take 27 r) h (omega arith) (e ∙ sym q))))
+
 -- ---- bytes 3 and 26, and the overflow byte of a reply with rates
 
 -- r and s differ at most in the bytes 3 and 26, in the overflow byte where the frame sent asks for rates, and in the CRC, which is right for each
 pub record Alike (sent r s : List ℕ) : Type 0 where
   pub lengths : length r ≡ length s
   pub elsewhere : (k : ℕ) → (k ≡ 3 → ⊥) → (AsksRates sent → k ≡ 25 → ⊥) → (k ≡ 26 → ⊥) → (k ≡ 27 → ⊥) → getD r k 0 ≡ getD s k 0
-  pub crc-r : crc (take 27 r) ≡ getD r 27 0
-  pub crc-s : crc (take 27 s) ≡ getD s 27 0
+  pub crc-r : crc frameStart (take 27 r) ≡ getD r 27 0
+  pub crc-s : crc frameStart (take 27 s) ≡ getD s 27 0
 
 turned : (sent r s : List ℕ) → Alike sent r s → Alike sent s r
 turned sent r s a = record {

@@ -7,7 +7,7 @@ use mathlib.Core.List.{List, [], _∷_}
 use borrow.Author.Tests.{eq-eqb, ne-eqb, lt-ltb, le-ltb}
 use lib.ListN.{length, getD, take}
 use Rattle.numbers.specs.Numbers.{idLimit}
-use Rattle.crc.specs.Crc.{crc}
+use Rattle.crc.specs.Crc.{crc, frameStart}
 use Rattle.replies.proofs.Same.{and-true, and-false}
 use Rattle.replies.specs.Replies.{sameFrom, zeros, dnaIn, rateData, dataRight, conditions, allOf, goodReply}
 
@@ -43,7 +43,7 @@ module _ (sent r : List ℕ) where
   unfolding conditions
   bad-code n = bad 4 (ne-eqb _ _ n)
 
-  pub bad-crc : (crc (take 27 r) ≡ getD r 27 0 → ⊥) → false ≡ goodReply sent r
+  pub bad-crc : (crc frameStart (take 27 r) ≡ getD r 27 0 → ⊥) → false ≡ goodReply sent r
   unfolding conditions
   bad-crc n = bad 5 (ne-eqb _ _ n)
 
@@ -54,7 +54,7 @@ module _ (sent r : List ℕ) where
       → getD r 1 0 ≡ getD sent 2 0
       → getD r 2 0 ≡ getD sent 1 0
       → getD r 4 0 ≡ getD sent 4 0
-      → crc (take 27 r) ≡ getD r 27 0
+      → crc frameStart (take 27 r) ≡ getD r 27 0
       → (t : Bool)
       → t ≡ dataRight sent r
       → t ≡ goodReply sent r

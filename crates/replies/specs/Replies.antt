@@ -1,11 +1,11 @@
--- 01, Slow control, and 02, i: when a reply is good for a frame sent, and what a good reply to a ping and one with rates carry.
+-- 01, Slow control, and 02, g and i: when a reply is good for a frame sent, and what a good reply to a ping and one with rates carry.
 use Prim.Native.Nat.{ℕ, zero, suc, _+_, _*_, _^_}
 use mathlib.Core.Bool.{Bool, true, cond, _&&_}
 use mathlib.Core.List.{List, [], _∷_, _++_}
 use lib.Dec.{ltb, eqb}
 use lib.ListN.{length, getD, take, replicate}
 use Rattle.numbers.specs.Numbers.{number, digits, idLimit}
-use Rattle.crc.specs.Crc.{crc}
+use Rattle.crc.specs.Crc.{crc, frameStart}
 use Rattle.replies.specs.declared.PingReply.{PingReply}
 
 -- whether the n bytes of a and b from the place i on are equal
@@ -55,7 +55,7 @@ conditions sent r =
     ∷ eqb (getD r 1 0) (getD sent 2 0)
     ∷ eqb (getD r 2 0) (getD sent 1 0)
     ∷ eqb (getD r 4 0) (getD sent 4 0)
-    ∷ eqb (crc (take 27 r)) (getD r 27 0)
+    ∷ eqb (crc frameStart (take 27 r)) (getD r 27 0)
     ∷ dataRight sent r
     ∷ []
 

@@ -3,6 +3,7 @@ ghost use mathlib.Core.Path.{_≡_};
 ghost use Prim.Native.Nat.{_-_, _<_};
 ghost use lib.ListN.{length, getD};
 ghost use Rattle.replies.specs.Replies.{sameFrom, dnaIn, countIn, rateData, dataRight, goodReply, carriedIn, ratesIn};
+use crc::FRAME_START;
 use crc::crc8;
 use numbers::ID_LIMIT;
 use numbers::number32;
@@ -118,7 +119,7 @@ pub fn is_good(sent: [u8; 28], reply: &[u8]) -> bool
         return false;
     }
     // The register after a right CRC is 0.
-    if crc8(&reply[..28]) != 0 {
+    if crc8(FRAME_START, &reply[..28]) != 0 {
         return false;
     }
     data_right(sent, &reply[..28])

@@ -9,7 +9,7 @@ use native.Mathlib.Omega.{arith}
 use lib.Dec.{eqb}
 use lib.ListN.{take, getD}
 use borrow.Author.Tests.{le-leb, eq-eqb, eqb-true, eqb-false, not-false}
-use Rattle.crc.specs.Crc.{crc}
+use Rattle.crc.specs.Crc.{crc, packetStart}
 use Rattle.refusals.specs.Tables.{given, Rule}
 use Rattle.refusals.specs.Writing.{writingRules, Wrote}
 use Rattle.refusals.specs.declared.Written.the-variants.{Length}
@@ -64,7 +64,8 @@ module _ (x : ℕ) (f : Fields) (hx : x < 2 ^ 32) (hn : f .n ≤ 40) (hs : f .«
   read-bytes : packetAnswer (packetBytes x f) ≡ given (record { number = x; fields = f })
   unfolding firstSix readRules
   read-bytes =
-      let sum : not (eqb (crc (firstSix x f)) (crc (firstSix x f))) ≡ false = simp (eq-eqb (crc (firstSix x f)) (crc (firstSix x f)) refl) in
+      let c = crc packetStart (firstSix x f) in
+      let sum : not (eqb c c) ≡ false = simp (eq-eqb c c refl) in
       let range : not (inRange (packetIn (packetBytes x f) .fields)) ≡ false =
       ap (λ (p : Packet). not (inRange (p .fields))) packet-back ∙ simp (le-leb _ _ hn, le-leb _ _ hs) in
       read-exactly (packetBytes x f) .clear-only (refl, (sum, (range, tt))) ∙ ap given packet-back
@@ -106,7 +107,7 @@ abbrev Same : List ℕ → Type 0
 Same b = packetBytes (packetIn b .number) (packetIn b .fields) ≡ b
 
 seven : (a₀ a₁ a₂ a₃ a₄ a₅ a₆ : ℕ) → a₀ < 256 → a₁ < 256 → a₂ < 256 → a₃ < 256 → a₄ < 256 → a₅ < 256
-    → crc (a₀ ∷ a₁ ∷ a₂ ∷ a₃ ∷ a₄ ∷ a₅ ∷ []) ≡ a₆ → Same (a₀ ∷ a₁ ∷ a₂ ∷ a₃ ∷ a₄ ∷ a₅ ∷ a₆ ∷ [])
+    → crc packetStart (a₀ ∷ a₁ ∷ a₂ ∷ a₃ ∷ a₄ ∷ a₅ ∷ []) ≡ a₆ → Same (a₀ ∷ a₁ ∷ a₂ ∷ a₃ ∷ a₄ ∷ a₅ ∷ a₆ ∷ [])
 unfolding firstSix
 seven a₀ a₁ a₂ a₃ a₄ a₅ a₆ h₀ h₁ h₂ h₃ h₄ h₅ e =
     let x = numberIn a₀ a₁ a₂ a₃ in
@@ -120,15 +121,15 @@ seven a₀ a₁ a₂ a₃ a₄ a₅ a₆ h₀ h₁ h₂ h₃ h₄ h₅ e =
     let e₄ : type1 (fieldsIn a₄ a₅) ≡ a₄ = simp odd-bit (omega arith) in
     let e₅ : type2 (fieldsIn a₄ a₅) ≡ a₅ = simp odd-bit (type2-bits a₅ h₅) in
     let six : firstSix x (fieldsIn a₄ a₅) ≡ a₀ ∷ a₁ ∷ a₂ ∷ a₃ ∷ a₄ ∷ a₅ ∷ [] = λ i. e₀ i ∷ e₁ i ∷ e₂ i ∷ e₃ i ∷ e₄ i ∷ e₅ i ∷ [] in
-    ap₂ (λ (l : List ℕ) (c : ℕ). l ++ (c ∷ [])) six (ap crc six ∙ e)
+    ap₂ (λ (l : List ℕ) (c : ℕ). l ++ (c ∷ [])) six (ap (crc packetStart) six ∙ e)
 
 pub written-read : (b : List ℕ) (p : Packet) → ((i : ℕ) → i < 7 → getD b i 0 < 256) → packetAnswer b ≡ given p → packetBytes (p .number) (p .fields) ≡ b
 unfolding readRules
 written-read b p bytes e =
     let k = read-exactly b .given-only p e in
     let l : spread 0 7 b ≡ b = listed b 7 (eqb-true _ _ (not-false _ (k .0 .0))) in
-    let sum : crc (take 6 b) ≡ getD b 6 0 = eqb-true _ _ (not-false _ (k .0 .1 .0)) in
-    let sum′ : crc (spread 0 6 b) ≡ getD b 6 0 = ap (λ (m : List ℕ). crc (take 6 m)) l ∙ sum in
+    let sum : crc packetStart (take 6 b) ≡ getD b 6 0 = eqb-true _ _ (not-false _ (k .0 .1 .0)) in
+    let sum′ : crc packetStart (spread 0 6 b) ≡ getD b 6 0 = ap (λ (m : List ℕ). crc packetStart (take 6 m)) l ∙ sum in
     let q : Same b = subst (λ (m : List ℕ). Same m) l
     (seven (getD b 0 0) (getD b 1 0) (getD b 2 0) (getD b 3 0) (getD b 4 0) (getD b 5 0) (getD b 6 0)
     (bytes 0 (omega arith)) (bytes 1 (omega arith)) (bytes 2 (omega arith)) (bytes 3 (omega arith)) (bytes 4 (omega arith)) (bytes 5 (omega arith)) sum′) in

@@ -3,7 +3,8 @@
 
 use super::{
     bytes_line, clock_line, mend, power_up_line, random_block, random_measurements, serve_pass,
-    session_block, suited_command, temperatures_line, trigger_line, Random, Script, GROUP, SCRIPTS,
+    session_block, suited_command, temperatures_line, trigger_line, wrong_start, Random, Script,
+    GROUP, SCRIPTS,
 };
 use crate::blocks::{Kind, HEADER};
 use crate::board::Board;
@@ -146,20 +147,24 @@ fn made_up_packet(random: &mut Random) -> [u8; packets::BYTES] {
     packet_of(random, number, n)
 }
 
-/// A packet with this number, this n of 0 to 63 and a right CRC.
+/// A packet with this number, this n of 0 to 63 and a right CRC (02, g).
 fn packet_of(random: &mut Random, number: u32, n: usize) -> [u8; packets::BYTES] {
     let [first, second, third, fourth] = number.to_le_bytes();
     let type_1 = (n << 2 | random.below(4)) as u8;
     let mut packet = [first, second, third, fourth, type_1, random.byte(), 0];
-    mend(&mut packet);
+    mend(packets::CRC_START, &mut packet);
     packet
 }
 
-/// Damages n, some bits or the length of a packet, or several of these.
+/// Damages n, the start of the CRC, some bits or the length of a packet, or several
+/// of these.
 fn damage_packet(random: &mut Random, packet: &mut Vec<u8>) {
     if random.chance(35) {
         packet[4] = ((41 + random.below(23)) << 2 | random.below(4)) as u8;
-        mend(packet);
+        mend(packets::CRC_START, packet);
+    }
+    if random.chance(20) {
+        mend(wrong_start(random, packets::CRC_START), packet);
     }
     if random.chance(45) {
         for _ in 0..1 + random.below(3) {
@@ -170,7 +175,7 @@ fn damage_packet(random: &mut Random, packet: &mut Vec<u8>) {
         let length = if random.chance(90) { random.below(21) } else { random.below(300) };
         packet.resize(length, random.byte());
         if random.chance(50) {
-            mend(packet);
+            mend(packets::CRC_START, packet);
         }
     }
 }
@@ -307,6 +312,8 @@ pub(super) fn scripts(random: &mut Random, index: usize) -> Vec<u8> {
         1 => fields(random, &mut script, part),
         2 => {
             packet_fields(random, &mut script);
+            packet_starts(random, &mut script);
+            stuck_lines(&mut script);
             forms(random, &mut script, part);
         }
         _ => exchange(random, &mut script),
@@ -341,7 +348,7 @@ fn lengths(random: &mut Random, script: &mut Script, part: usize) {
         let mut packet = made_up_packet(random).to_vec();
         packet.resize(length, random.byte());
         script.push(&bytes_line(b'X', &packet));
-        mend(&mut packet);
+        mend(packets::CRC_START, &mut packet);
         let mut line = bytes_line(b'X', &packet);
         script.push(&line);
         line.push(b'0');
@@ -400,8 +407,34 @@ fn packet_fields(random: &mut Random, script: &mut Script) {
         let mut changed = packet;
         changed[bit / 8] ^= 1 << (bit % 8);
         script.push(&bytes_line(b'X', &changed));
-        mend(&mut changed);
+        mend(packets::CRC_START, &mut changed);
         script.push(&bytes_line(b'X', &changed));
+    }
+}
+
+/// Packets with a CRC from every start (02, g), and with every n and the CRC from
+/// 0x00, the start that 01 gives.
+fn packet_starts(random: &mut Random, script: &mut Script) {
+    for start in 0..=255 {
+        let mut packet = made_up_packet(random);
+        mend(start, &mut packet);
+        script.push(&bytes_line(b'X', &packet));
+    }
+    for n in 0..64 {
+        let number = random.number() as u32 >> random.below(32);
+        let mut packet = packet_of(random, number, n);
+        mend(0x00, &mut packet);
+        script.push(&bytes_line(b'X', &packet));
+    }
+}
+
+/// What a line that is stuck low, as with its cable pulled (02, g), or high gives,
+/// of every length up to 20.
+fn stuck_lines(script: &mut Script) {
+    for byte in [0x00, 0xFF] {
+        for length in 0..=20 {
+            script.push(&bytes_line(b'X', &vec![byte; length]));
+        }
     }
 }
 
@@ -476,6 +509,7 @@ mod tests {
 
     use super::super::words_line;
     use super::*;
+    use crate::crc::crc8;
 
     fn answer(script: &mut Script, line: &[u8]) -> String {
         script.push(line);
@@ -495,6 +529,30 @@ mod tests {
             let line = bytes_line(b'X', &made_up_packet(random));
             assert!(answer(&mut script, &line).starts_with("0 "));
         }
+    }
+
+    /// Only the packets with the right start are read, and no stuck line is.
+    #[test]
+    fn starts_and_stuck_lines() {
+        let mut random = Random::new(5);
+        let mut script = Script::new();
+        packet_starts(&mut random, &mut script);
+        stuck_lines(&mut script);
+        let text = String::from_utf8(script.text.clone()).expect("scripts are text");
+        let mut read = 0;
+        for line in text.lines() {
+            let answer = answer(&mut script, line.as_bytes());
+            let bytes = bytes_of(&line.as_bytes()[1..]);
+            match &bytes[..] {
+                [others @ .., last] if bytes.len() == packets::BYTES => {
+                    let right = *last == crc8(packets::CRC_START, others);
+                    assert_eq!(answer == "14\n", !right, "{line}");
+                    read += usize::from(right);
+                }
+                _ => assert_eq!(answer, "13\n", "{line}"),
+            }
+        }
+        assert_eq!(read, 1);
     }
 
     /// Over `STRIDE` parts, lines have every count of digits that their letter

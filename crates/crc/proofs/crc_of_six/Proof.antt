@@ -1,21 +1,24 @@
 -- `crc::crc_of_six` meets its contract. Assumes nothing.
-use Rattle.crc.proofs.Steps.{six-of}
+use Rattle.crc.proofs.Steps.{six-from}
 use borrow.Author.Needs.{needs}
 use native.Mathlib.Omega.{arith}
 use Rattle.crc.proofs.crc_of_six.Statement.{statement}
 use Rattle.crc.proofs.crc_of_six.Tie as tie
 
+mul-first : tie.Need-mul-first
+mul-first c = search needs
+
+mul-first-2 : tie.Need-mul-first-2
+mul-first-2 c = search needs
+
+add-first : tie.Need-add-first
+add-first c = search needs
+
+add-first-2 : tie.Need-add-first-2
+add-first-2 c = search needs
+
 mul-top : tie.Need-mul-top
 mul-top c = search needs
-
-mul-top-2 : tie.Need-mul-top-2
-mul-top-2 c = search needs
-
-add-top : tie.Need-add-top
-add-top c = search needs
-
-add-top-2 : tie.Need-add-top-2
-add-top-2 c = search needs
 
 mul-low : tie.Need-mul-low
 mul-low c = search needs
@@ -38,9 +41,22 @@ cast-result c = search needs
 returns : tie.Need-returns
 returns c =
     let v = c .args in
-    six-of (v .a) (v .b) (v .c) (v .d) (v .e) (v .f) (omega arith) (omega arith) (omega arith) (omega arith) (omega arith) (omega arith)
+    six-from (v .start) (v .a) (v .b) (v .c) (v .d) (v .e) (v .f)
+    (omega arith) (omega arith) (omega arith) (omega arith) (omega arith) (omega arith) (omega arith)
 
 pub crc-of-six-spec : {M : Type 1} → statement M
 crc-of-six-spec =
     tie.close
-    (tie.spec mul-top mul-top-2 add-top add-top-2 mul-low mul-low-2 add-low mul-low-3 add-low-2 cast-result returns)
+    (tie.spec
+    mul-first
+    mul-first-2
+    add-first
+    add-first-2
+    mul-top
+    mul-low
+    mul-low-2
+    add-low
+    mul-low-3
+    add-low-2
+    cast-result
+    returns)

@@ -4,7 +4,7 @@ use mathlib.Core.Path.{_≡_, ap, _∙_}
 use mathlib.Core.List.{List}
 use lib.ListN.{length, take, length-take}
 use native.Mathlib.Omega.{arith}
-use Rattle.crc.specs.Crc.{crc}
+use Rattle.crc.specs.Crc.{crc, frameStart}
 use Rattle.frames.proofs.Frames.{crc-stored}
 use borrow.Author.Needs.{needs}
 use Rattle.frames.proofs.frame_with.Statement.{statement}
@@ -31,7 +31,7 @@ returns : tie.Need-returns
 returns c =
     let built = c .before .before in
     let a = built .before .args in
-    let sum = c .crc8 .ensures ∙ ap (λ (f : List ℕ). crc (take 27 f)) (built .before-crc .ensures) in
+    let sum = c .crc8 .ensures ∙ ap (λ (f : List ℕ). crc frameStart (take 27 f)) (built .before-crc .ensures) in
     rw (built .before-crc .ensures) (crc-stored (a .address) (a .number) (a .w) _ sum)
 
 pub frame-with-spec : {M : Type 1} → statement M

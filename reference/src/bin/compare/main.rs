@@ -7,13 +7,15 @@ use std::process::ExitCode;
 use std::sync::Mutex;
 
 use reference::board::{Mode, PassKind};
+use reference::frames::{self, Frame};
 use reference::generate::{self, crate_in, Generated, SCRIPTS};
 use reference::other::{self, shown, Seen, Served};
 use reference::replay::MAX_DIGITS;
-use reference::{frames, CRATES};
+use reference::CRATES;
 
 use rates::Answered;
 
+mod checksums;
 mod explanations;
 mod rates;
 
@@ -161,7 +163,8 @@ const FETCHES: &[&str] = &[
 fn listed() -> Vec<String> {
     let listed = [REACHABLE, FAR_END, OTHER_FORMS, RESETS, FETCHES].concat();
     let listed = listed.into_iter().map(String::from);
-    listed.chain(rates::listed()).chain(explanations::listed()).collect()
+    let listed = listed.chain(rates::listed()).chain(explanations::listed());
+    listed.chain(checksums::listed()).collect()
 }
 
 /// The digits of the IDs of commands.
@@ -351,6 +354,30 @@ impl Buses {
     }
 }
 
+/// The frame that is outstanding on each crate, where a line has shown it.
+#[derive(Default)]
+struct Shown([Option<Frame>; CRATES]);
+
+impl Shown {
+    /// That of a reply's crate.
+    fn sent(&self, line: &[u8], name: &str) -> Option<Frame> {
+        let reply = name.starts_with("R ") && name != "R 11";
+        reply.then(|| self.0[crate_in(line)]).flatten()
+    }
+
+    /// Adds the line that had this answer. All lines of a script come in turn.
+    fn add(&mut self, answered: &Answered) {
+        match answered.name {
+            "P 0" | "B 0" | "C 441 write" | "C 5 ping" => *self = Shown::default(),
+            "F 11" | "F 12" | "R 11" | "R 12" | "T 11" | "T 12" => {}
+            name if name.starts_with(['F', 'R', 'T']) => {
+                self.0[crate_in(answered.line)] = answered.frame();
+            }
+            _ => {}
+        }
+    }
+}
+
 fn mode_name(mode: Mode) -> &'static str {
     match (mode.pass, mode.run.is_some()) {
         (None, false) => "idle",
@@ -434,7 +461,7 @@ fn other_form(line: &[u8]) -> Option<&'static str> {
 }
 
 /// The name of each answer to a script's lines, and its names in `RESETS`,
-/// `FETCHES` and the lists of `rates` and `explanations`.
+/// `FETCHES` and the lists of `rates`, `explanations` and `checksums`.
 fn names<'a>(
     script_lines: &'a [&[u8]],
     answers: &'a [&[u8]],
@@ -442,19 +469,23 @@ fn names<'a>(
 ) -> impl Iterator<Item = (String, Vec<String>)> + 'a {
     let mut past = Past::default();
     let mut buses = Buses::default();
+    let mut shown = Shown::default();
     let mut rates = rates::Past::default();
     let mut explanations = explanations::Past::default();
     answers.iter().zip(served).map(move |(answer, served)| {
         let &Served { number, mode, fresh, .. } = served;
         let line = script_lines[number];
         let name = name(line, answer);
-        let answered = Answered { line, answer, name: &name, served };
+        let sent = shown.sent(line, &name);
+        let answered = Answered { line, answer, name: &name, served, sent };
         let mut others = past.names(line, &name, mode, fresh);
         others.extend(buses.names(line, &name).into_iter().map(String::from));
         others.extend(rates.names(&answered));
         others.extend(explanations.names(&answered));
+        others.extend(checksums::name(&answered));
         past.add(line, &name, fresh);
         buses.add(line, &name);
+        shown.add(&answered);
         rates.add(&answered);
         explanations.add(&answered);
         (name, others)
@@ -762,7 +793,7 @@ pub mod tests {
         let mut reply = vec![0x40, 192, 0x30, free[1], frames::RATES];
         counts.iter().for_each(|count| reply.extend(count.to_be_bytes()));
         reply.extend([free[0], free[2]]);
-        reply.push(reference::crc::crc8(&reply));
+        reply.push(reference::crc::crc8(frames::CRC_START, &reply));
         let digits: String = reply.iter().map(|byte| format!("{byte:02X}")).collect();
         format!("R03 {digits}\n")
     }
@@ -801,6 +832,7 @@ pub mod tests {
                     "C 9 stop while fetching rates",
                     "G 16 while fetching rates",
                     "L 9 while fetching rates",
+                    "X 13 of 0 zero bytes",
                     "R good done while fetching rates",
                 ],
             ),
@@ -897,7 +929,9 @@ pub mod tests {
             ([1, 2, 3, 4, 10], [0; 3], &[good]),
         ] {
             let line = rates_line(counts, free);
-            let whole = [&fetched[..], expected].concat();
+            let right = ["R good with a CRC from 0x00 to code 5"];
+            let right = &right[..usize::from(expected[0] == good)];
+            let whole = [&fetched[..], expected, right].concat();
             check_names(&[
                 (&[&begin, FETCH, &line], &whole),
                 (&[&begin, &line], &["B 0 while running", expected[0]]),
@@ -937,6 +971,11 @@ pub mod tests {
             "E 9 idle for a ping while running",
             "E 8 block word 4, allowed 0000 to FFFF",
             "C 4 explained as 5",
+            "X 0 of 7 zero bytes",
+            "X 0 with a CRC from 0x00",
+            "X 14 with a CRC from 0xFF",
+            "R good with a CRC from 0xFF to code 1",
+            "R bad with a CRC from 0x00 to code 4",
         ] {
             let mut more = seen.clone();
             more.insert(name.to_string(), 1);

@@ -6,9 +6,7 @@ use reference::blocks::{HEADER, MEASUREMENTS, RATE_LIMIT};
 use reference::board::PassKind;
 use reference::crc::crc8;
 use reference::frames::{self, Frame, DELIMITER, OUR_ADDRESS};
-use reference::generate::crate_in;
 use reference::other::Served;
-use reference::CRATES;
 
 use crate::{has_id, mode_name, PING_ID, START_ID, STOP_ID, WRITE_ID};
 
@@ -125,6 +123,9 @@ pub struct Answered<'a> {
     pub answer: &'a [u8],
     pub name: &'a str,
     pub served: &'a Served,
+    /// The frame that is outstanding on the crate of a reply, where a line has
+    /// shown it.
+    pub sent: Option<Frame>,
 }
 
 impl Answered<'_> {
@@ -147,20 +148,28 @@ impl Answered<'_> {
         self.answer.get(b"0 ".len() + 4 * word..).unwrap_or(&[])
     }
 
-    /// The address of the frame in the answer.
-    fn address(&self) -> Option<u8> {
+    /// The frame in the answer.
+    pub fn frame(&self) -> Option<Frame> {
         let digits = self.answer.rsplit(|&byte| byte == b' ').next()?;
-        let pair = digits.get(2..4).filter(|_| digits.len() == 2 * frames::BYTES)?;
-        u8::from_str_radix(std::str::from_utf8(pair).ok()?, 16).ok()
+        bytes_of(digits)?.try_into().ok()
+    }
+
+    /// The bytes of a line that has only bytes.
+    pub fn bytes(&self) -> Option<Vec<u8>> {
+        bytes_of(&self.digits().collect::<Vec<u8>>())
     }
 
     /// The bytes of a reply.
-    fn reply(&self) -> Option<Frame> {
-        let digits: Vec<u8> = self.digits().skip(2).collect();
-        let value = |digit: u8| char::from(digit).to_digit(16).map(|value| value as u8);
-        let bytes = digits.chunks(2).map(|pair| Some(value(pair[0])? << 4 | value(pair[1])?));
-        bytes.collect::<Option<Vec<u8>>>()?.try_into().ok()
+    pub fn reply(&self) -> Option<Frame> {
+        self.bytes()?.get(1..)?.try_into().ok()
     }
+}
+
+/// The bytes of these digits; none where there are others or an odd number.
+fn bytes_of(digits: &[u8]) -> Option<Vec<u8>> {
+    let value = |digit: u8| char::from(digit).to_digit(16).map(|value| value as u8);
+    let pairs = digits.chunks(2);
+    pairs.map(|pair| Some(value(pair[0])? << 4 | value(*pair.get(1)?)?)).collect()
 }
 
 /// What the names of these lists ask of the lines before.
@@ -176,9 +185,6 @@ pub struct Past {
     failing: bool,
     /// What was accepted since the last rate pass finished.
     since: BTreeSet<&'static str>,
-    /// The address of the frame that is outstanding on each crate, where a line has
-    /// shown it.
-    asked: [Option<u8>; CRATES],
 }
 
 impl Past {
@@ -209,7 +215,7 @@ impl Past {
                 names.push("L 0 with boards after a rate pass".to_string());
             }
             name if name.starts_with("R ") && answered.in_rate_pass() => {
-                self.count_names(answered, &mut names);
+                count_names(answered, &mut names);
             }
             _ => {}
         }
@@ -245,19 +251,6 @@ impl Past {
         }
     }
 
-    /// The names of a reply that is right by 01 in all but its data.
-    fn count_names(&self, answered: &Answered, names: &mut Vec<String>) {
-        let Some(address) = self.asked.get(crate_byte(answered)).copied().flatten() else {
-            return;
-        };
-        let Some(reply) = answered.reply().filter(|reply| right_but_for_data(reply, address))
-        else {
-            return;
-        };
-        let verdict = if answered.name.starts_with("R good") { "good" } else { "bad" };
-        names.extend(names_of_rates(&reply).iter().map(|name| format!("R {verdict} with {name}")));
-    }
-
     /// Adds the line that had this answer. All lines of a script come in turn.
     pub fn add(&mut self, answered: &Answered) {
         let Answered { name, served, .. } = *answered;
@@ -266,9 +259,6 @@ impl Past {
             "B 0" | "C 441 write" | "C 5 ping" => self.begin_pass(name == "B 0"),
             "D 0" => self.had_rates |= has_rates(answered),
             _ => {}
-        }
-        if name.starts_with(['F', 'R', 'T']) && !name.ends_with(['1', '2']) {
-            self.asked[crate_byte(answered)] = answered.address();
         }
         if answered.in_rate_pass() && name.contains("failed") {
             self.failing = true;
@@ -284,7 +274,6 @@ impl Past {
 
     fn begin_pass(&mut self, of_rates: bool) {
         self.last = of_rates;
-        self.asked = [None; CRATES];
         if of_rates {
             self.failing = false;
         }
@@ -328,18 +317,23 @@ fn has_rates(answered: &Answered) -> bool {
     answered.words_from(HEADER + 7).iter().any(|&digit| digit != b'0')
 }
 
-/// The crate byte of a line.
-fn crate_byte(answered: &Answered) -> usize {
-    match answered.name.split_once(' ') {
-        Some((_, "11")) => CRATES,
-        _ => crate_in(answered.line),
+/// The names of a reply that is right by 01 in all but its data.
+fn count_names(answered: &Answered, names: &mut Vec<String>) {
+    let (Some(sent), Some(reply)) = (answered.sent, answered.reply()) else {
+        return;
+    };
+    if !right_but_for_data(&reply, sent[1]) {
+        return;
     }
+    let verdict = if answered.name.starts_with("R good") { "good" } else { "bad" };
+    names.extend(names_of_rates(&reply).iter().map(|name| format!("R {verdict} with {name}")));
 }
 
 /// Whether a reply is right by 01 in all but its data.
 fn right_but_for_data(reply: &Frame, address: u8) -> bool {
     let head = [reply[0], reply[1], reply[2], reply[4]];
-    head == [DELIMITER, OUR_ADDRESS, address, frames::RATES] && reply[27] == crc8(&reply[..27])
+    head == [DELIMITER, OUR_ADDRESS, address, frames::RATES]
+        && reply[27] == crc8(frames::CRC_START, &reply[..27])
 }
 
 /// What is named in a reply's rates.
