@@ -1,4 +1,6 @@
 // When a command is accepted: the first command of a stream's words, in a state that is idle, running or neither, fresh or not.
+#![tactic(auto)]
+
 ghost use Rattle.std.specs.Prelude.{◌≡◌};
 ghost use Rattle.refusals.specs.Tables.{lowest};
 ghost use Rattle.acceptance.specs.Acceptance.{not_now, not_fresh, state_rules, answer_meaning, Decides};
@@ -8,7 +10,7 @@ use commands::Command;
 use refusals::Refusal;
 
 // What a board's state is to a command.
-#[derive(Drop)]
+#[derive(Clone, Copy)]
 pub struct Status {
     pub idle: bool,
     pub running: bool,
@@ -16,14 +18,14 @@ pub struct Status {
 }
 
 // What a command gets: what is done, or a refusal.
-#[derive(Drop)]
+#[derive(Clone, Copy)]
 pub enum CommandAnswer {
     Obeyed(Command),
     Refused(Refusal),
 }
 
 // An answer, with the words that the command used.
-#[derive(Drop)]
+#[derive(Clone, Copy)]
 pub struct Decision {
     pub answer: CommandAnswer,
     pub used: usize,

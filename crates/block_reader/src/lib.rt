@@ -1,4 +1,6 @@
 // The reader of blocks, for the far end: it is told the kind, gives the header, and hands back the body.
+#![tactic(auto)]
+
 ghost use Rattle.std.specs.Prelude.{◌≡◌, [], ◌∷◌, length, drop};
 ghost use Rattle.refusals.specs.Tables.{lowest};
 ghost use Rattle.words.specs.Parts.{PartOf};
@@ -11,7 +13,7 @@ use numbers::{ID_LIMIT, number32, number48, number64};
 use refusals::Refusal;
 use words::{part, word_at};
 
-#[derive(Drop)]
+#[derive(Clone, Copy)]
 pub enum Kind {
     Static,
     Dynamic,
@@ -20,7 +22,7 @@ pub enum Kind {
 }
 
 // What reading finds: the header of a block that is right, or a refusal.
-#[derive(Drop)]
+#[derive(Clone, Copy)]
 pub enum BlockRead {
     Read(Header),
     Refused(Refusal),
@@ -106,7 +108,7 @@ pub fn body_after(answer: BlockRead, words: &[u16]) -> &[u16]
 }
 
 // A block that is read: the answer, and the body as a part of the caller's words.
-#[derive(Drop)]
+#[derive(Clone, Copy)]
 pub struct ReadBlock<'a> {
     pub answer: BlockRead,
     // No words where the block is refused.

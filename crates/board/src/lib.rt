@@ -1,4 +1,6 @@
 // The board: its state, and every call on it in the order of 01.
+#![tactic(auto)]
+
 ghost use Rattle.std.specs.Prelude.{◌≡◌, true, cond, ◌≤◌, length};
 ghost use Rattle.refusals.specs.Tables.{given};
 ghost use Rattle.configuration.specs.Configuration.{active_word};
@@ -34,7 +36,7 @@ use steps::{Event, step_frame, write_frame};
 use words::copy_words;
 
 // Never changes after power-up.
-#[derive(Drop)]
+#[derive(Clone, Copy)]
 pub struct Identity {
     // Below 2^57.
     pub board_id: u64,
@@ -42,7 +44,7 @@ pub struct Identity {
 }
 
 // The arrays stand first and what changes most stands last, so that a call copies as little as it can.
-#[derive(Drop)]
+#[derive(Clone, Copy)]
 pub struct Board {
     // Of the rate pass before the last one begun; changed by the begin of a rate pass.
     pub rates: [u16; 480],
@@ -60,13 +62,13 @@ pub struct Board {
 }
 
 // Whether a board came up.
-#[derive(Drop)]
+#[derive(Clone, Copy)]
 pub enum PowerUp {
     Up,
     Refused(Refusal),
 }
 
-#[derive(Drop)]
+#[derive(Clone, Copy)]
 pub struct PowerUpResult {
     // No board of the caller's where power-up is refused: one of ID 0.
     pub board: Board,
@@ -74,19 +76,19 @@ pub struct PowerUpResult {
 }
 
 // Whether a rate pass began.
-#[derive(Drop)]
+#[derive(Clone, Copy)]
 pub enum PassBegun {
     Begun,
     Refused(Refusal),
 }
 
-#[derive(Drop)]
+#[derive(Clone, Copy)]
 pub struct BeginResult {
     pub board: Board,
     pub answer: PassBegun,
 }
 
-#[derive(Drop)]
+#[derive(Clone, Copy)]
 pub struct CommandResult {
     pub board: Board,
     pub answer: CommandAnswer,
@@ -94,13 +96,13 @@ pub struct CommandResult {
     pub used: usize,
 }
 
-#[derive(Drop)]
+#[derive(Clone, Copy)]
 pub struct TriggerResult {
     pub board: Board,
     pub answer: Written,
 }
 
-#[derive(Drop)]
+#[derive(Clone, Copy)]
 pub struct ReplyResult {
     pub board: Board,
     pub answer: ReplyAnswer,

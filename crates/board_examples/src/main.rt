@@ -1,5 +1,7 @@
 // 01's examples of passes, streams that get every answer a stream can get, replies, time-ups and fetches with 0, 27, 28 and 40 bytes lent (02, d), and
 // rate passes (02, i), worked by the code: each line names the example, and gives what the board answered.
+#![tactic(auto)]
+
 ghost use Rattle.std.specs.Prelude.{◌≤◌};
 
 use board::{Board, PassBegun, power_up};
@@ -31,7 +33,7 @@ fn write_with(at: usize, word: u16) -> [u16; 441] {
 }
 
 // A board, and the frame that was last handed out on its crate 0.
-#[derive(Drop)]
+#[derive(Clone, Copy)]
 struct Line {
     board: Board,
     frame: [u8; 28],

@@ -1,4 +1,6 @@
 // What refuses a call of an exported function: the number of the refusal, the lowest where several apply, 0 where none does.
+#![tactic(auto)]
+
 ghost use Rattle.std.specs.Prelude.{◌≡◌, ◌<◌};
 ghost use Rattle.call_refusals.specs.CallRefusals.{lower_of, left_over, no_room, pass_refusal, packets_refusal, triggers_refusal};
 

@@ -1,1 +1,3 @@
 // A list of cells that do not see each other, served in any order; theorems only (proofs/Cells.antt).
+#![tactic(auto)]
+

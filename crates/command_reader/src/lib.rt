@@ -1,4 +1,6 @@
 // The reader of commands: the first command of a stream's words, its block, and the words that remain.
+#![tactic(auto)]
+
 ghost use Rattle.std.specs.Prelude.{◌≡◌};
 ghost use Rattle.refusals.specs.Tables.{given};
 ghost use Rattle.words.specs.Parts.{PartOf};
@@ -12,7 +14,7 @@ use refusals::Refusal;
 use words::{part, word_at};
 
 // What reading finds: a command with the words that it takes, or a refusal, which takes none.
-#[derive(Drop)]
+#[derive(Clone, Copy)]
 pub enum CommandRead {
     Accepted(Command, usize),
     Refused(Refusal),
@@ -105,7 +107,7 @@ pub fn rest_after(words: &[u16], used: usize) -> &[u16]
 }
 
 // A command that is read: the answer, and its block and the words that remain as parts of the caller's words.
-#[derive(Drop)]
+#[derive(Clone, Copy)]
 pub struct ReadCommand<'a> {
     pub answer: CommandRead,
     // No words where the command has no block or is refused.

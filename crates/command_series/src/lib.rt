@@ -1,4 +1,6 @@
 // Commands obeyed one after another, on a fresh board.
+#![tactic(auto)]
+
 ghost use Rattle.std.specs.Prelude.{◌≡◌, ◌≤◌};
 ghost use Rattle.refusals.specs.Tables.{answer_number, is_given};
 ghost use Rattle.acceptance.specs.Acceptance.{answer_meaning};
@@ -36,7 +38,7 @@ fn first_of(a: u8, b: u8) -> u8
 }
 
 // A board after commands, how many of them were accepted, and the number of the first that was refused, 0 where none was.
-#[derive(Drop)]
+#[derive(Clone, Copy)]
 pub struct AfterCommands {
     pub board: Board,
     pub accepted: u64,

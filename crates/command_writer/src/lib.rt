@@ -1,4 +1,6 @@
 // The writer of commands, for the far end.
+#![tactic(auto)]
+
 ghost use Rattle.std.specs.Prelude.{[]};
 ghost use Rattle.refusals.specs.Writing.{Wrote};
 ghost use Rattle.commands.specs.declared.Command.TheVariants.{Write, Start, CrateReset};

@@ -1,11 +1,13 @@
 // The configuration: the 436 words of the static block, and a board's part of them.
+#![tactic(auto)]
+
 ghost use Rattle.std.specs.Prelude.{◌≡◌};
 ghost use Rattle.configuration.specs.Configuration.{begin_of, address_of, board_words, settings_of, active_word, flag_set};
 
 use words::word_at;
 
 // A board's settings, from its ten words.
-#[derive(Drop)]
+#[derive(Clone, Copy)]
 pub struct Settings {
     // Of patch 0 to 3.
     pub enables: [u16; 4],

@@ -1,5 +1,7 @@
 // One crate's part in a pass: the frame that is outstanding on it, its tries, its number of frames, what failed, its part of the FTU list, and its
 // rates.
+#![tactic(auto)]
+
 ghost use Rattle.std.specs.Prelude.{◌≡◌, ◌<◌};
 ghost use Rattle.crate_pass.specs.Crate.{next_board, first_code, calls_at, clears_list, is_rate_pass, crate_at_power_up, is_done, sent_at, begun_crate};
 ghost use Rattle.crate_pass.specs.Crate.{counted_frame, with_twelve, noted, moved, judged_on, Serves};
@@ -11,7 +13,7 @@ use refusals::Refusal;
 use steps::{Event, Judged, judge_event, step_frame, write_frame};
 use words::copy_words;
 
-#[derive(Drop)]
+#[derive(Clone, Copy)]
 pub enum PassKind {
     Reprogramming,
     Ping,
@@ -19,7 +21,7 @@ pub enum PassKind {
 }
 
 // How a reply or a time-up was served, each with whether the crate is done.
-#[derive(Drop)]
+#[derive(Clone, Copy)]
 pub enum Outcome {
     Good(bool),
     Again(bool),
@@ -27,14 +29,14 @@ pub enum Outcome {
 }
 
 // What a reply or a time-up gets.
-#[derive(Drop)]
+#[derive(Clone, Copy)]
 pub enum ReplyAnswer {
     Served(Outcome),
     Refused(Refusal),
 }
 
 // The arrays stand first and what changes most stands last, so that a begin clears an array at once and little is copied.
-#[derive(Drop)]
+#[derive(Clone, Copy)]
 pub struct Crate {
     // The rates of this rate pass or the last, each board's twelve words at 12 times its number.
     pub rates: [u16; 120],
@@ -55,7 +57,7 @@ pub struct Crate {
 }
 
 // Where a crate is: a board, a code, and how often that step failed.
-#[derive(Drop)]
+#[derive(Clone, Copy)]
 pub struct Place {
     pub board: u8,
     pub code: u8,
@@ -63,14 +65,14 @@ pub struct Place {
 }
 
 // How a reply or a time-up was served, with the crate after it.
-#[derive(Drop)]
+#[derive(Clone, Copy)]
 pub struct Moved {
     pub state: Crate,
     pub outcome: Outcome,
 }
 
 // An answer, with the crate after it.
-#[derive(Drop)]
+#[derive(Clone, Copy)]
 pub struct CrateResult {
     pub state: Crate,
     pub answer: ReplyAnswer,

@@ -1,4 +1,6 @@
 // The CRC-8 of trigger packets and slow-control frames.
+#![tactic(auto)]
+
 ghost use Rattle.std.specs.Prelude.{◌+◌, ◌≤◌, ◌≡◌, [], ◌∷◌, length, drop, replicate};
 ghost use Rattle.crc.specs.Crc.{crc};
 ghost use Rattle.crc.specs.CodeShape.{crc_word};

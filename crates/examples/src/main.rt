@@ -1,4 +1,6 @@
 // The examples of the formats in 01 and in 02, g, worked by the code: each line names the example as they do, and gives what the code answered.
+#![tactic(auto)]
+
 use command_reader::{CommandRead, read_command};
 use commands::{Command, RunLength};
 use configuration::begin_of;

@@ -1,4 +1,6 @@
 // A replay script's lines, served on a board: what the replay program decides.
+#![tactic(auto)]
+
 ghost use Rattle.std.specs.Prelude.{◌≡◌, ◌≤◌, min, length};
 ghost use Rattle.script.specs.Script.{order, malformed};
 ghost use Rattle.script.specs.ByCharacter.{order_in, line_in};
@@ -25,14 +27,14 @@ use texts::{Response, write_explanation, write_response};
 use words::words_from_bytes;
 
 // What an order gets, with the board after it.
-#[derive(Drop)]
+#[derive(Clone, Copy)]
 struct Answered {
     pub response: Response,
     pub board: Board,
 }
 
 // A line served: how much of the text is printed, and the board after it.
-#[derive(Drop)]
+#[derive(Clone, Copy)]
 pub struct ServedLine {
     pub length: usize,
     pub board: Board,

@@ -1,4 +1,6 @@
 // Why the first command of a stream's words is accepted or refused (02, c): what the operator is told.
+#![tactic(auto)]
+
 ghost use Rattle.std.specs.Prelude.{◌≡◌, ◌-◌, get_or, replicate};
 ghost use Rattle.refusals.specs.Tables.{refusal_meaning};
 ghost use Rattle.commands.specs.Commands.{block_length, parameters_of};
@@ -15,7 +17,7 @@ use run::Freshness;
 use words::{part, word_at};
 
 // What a board does: nothing, a run, a pass, or both.
-#[derive(Drop)]
+#[derive(Clone, Copy)]
 pub enum Activity {
     Idle,
     Running,
@@ -24,14 +26,14 @@ pub enum Activity {
 }
 
 // What a board's state is to an explanation.
-#[derive(Drop)]
+#[derive(Clone, Copy)]
 pub struct Present {
     pub activity: Activity,
     pub freshness: Freshness,
 }
 
 // All that is allowed at a place.
-#[derive(Drop)]
+#[derive(Clone, Copy)]
 pub enum Allowed {
     // So many of the numbers listed beside the reason.
     Numbers(usize),
@@ -40,7 +42,7 @@ pub enum Allowed {
 }
 
 // The lowest word at fault, what stands there, and what is allowed.
-#[derive(Drop)]
+#[derive(Clone, Copy)]
 pub struct WordAtFault {
     pub place: usize,
     pub stands: u16,
@@ -48,7 +50,7 @@ pub struct WordAtFault {
 }
 
 // Why a command gets its answer: a case for each number from 0 to 10, in their order.
-#[derive(Drop)]
+#[derive(Clone, Copy)]
 pub enum Reason {
     Accepted,
     // How many words are missing up to five.
@@ -66,7 +68,7 @@ pub enum Reason {
     NotFresh(Freshness),
 }
 
-#[derive(Drop)]
+#[derive(Clone, Copy)]
 pub struct Explanation {
     pub reason: Reason,
     // Where the reason lists numbers, these, and zeros after them.
@@ -74,7 +76,7 @@ pub struct Explanation {
 }
 
 // A list of numbers with zeros after them, and how many they are.
-#[derive(Drop)]
+#[derive(Clone, Copy)]
 struct NumberList {
     count: usize,
     listed: [u16; 8],

@@ -1,6 +1,8 @@
 // Functions for programs in C or Rust, over numbers and slices: each makes a fresh board of its own where it needs one.
 // A function that can refuse returns the number of the refusal, the lowest where several apply, and then leaves all lent memory as it was;
 // else it returns 0, and what is due stands in front of the lent output. A number that it counts is the first of the lent numbers.
+#![tactic(auto)]
+
 ghost use Rattle.std.specs.Prelude.{◌≡◌, ◌*◌, ◌≤◌, length};
 ghost use Rattle.refusals.specs.Tables.{is_given};
 ghost use Rattle.crc.specs.Crc.{crc};

@@ -1,4 +1,6 @@
 // The far end's letters of a replay script: commands written (`W`), trigger packets read (`X`), blocks read (`Y`).
+#![tactic(auto)]
+
 ghost use Rattle.std.specs.Prelude.{◌≡◌, [], ◌≤◌, length};
 ghost use Rattle.words.specs.Words.{words_in};
 ghost use Rattle.commands.specs.declared.Command.TheVariants.{Write};
@@ -19,14 +21,14 @@ use texts::{Response, write_response};
 use words::{copy_words, words_from_bytes};
 
 // The command that bytes ask for.
-#[derive(Drop)]
+#[derive(Clone, Copy)]
 enum CommandAsked {
     Asked(Command),
     OtherForm,
 }
 
 // The kind of block that a byte asks for.
-#[derive(Drop)]
+#[derive(Clone, Copy)]
 enum KindAsked {
     Asked(Kind),
     OtherForm,

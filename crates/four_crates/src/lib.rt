@@ -1,5 +1,7 @@
 // The four crates: a pass begun on all of them, whether one is under way, the first frames, the entries of the FTU list, the rates, and the failure
 // records.
+#![tactic(auto)]
+
 ghost use Rattle.std.specs.Prelude.{◌≡◌, ◌<◌, get_or};
 ghost use Rattle.crate_pass.specs.Crate.{entries_in, silent};
 ghost use Rattle.four_crates.specs.FourCrates.{in_pass, begun_all, first_meaning, first_answer};
@@ -12,28 +14,28 @@ use refusals::Refusal;
 use words::copy_words;
 
 // A board k that failed, with the number of the code of the step that did.
-#[derive(Drop)]
+#[derive(Clone, Copy)]
 pub struct Failure {
     pub k: u8,
     pub code: u8,
 }
 
 // The board and the code of a crate's first frame in a pass.
-#[derive(Drop)]
+#[derive(Clone, Copy)]
 pub enum FirstStep {
     Step(u8, u8),
     Refused(Refusal),
 }
 
 // The number of frames sent on a crate.
-#[derive(Drop)]
+#[derive(Clone, Copy)]
 pub enum FramesSent {
     Number(u16),
     Refused(Refusal),
 }
 
 // The failure record of an ordinal.
-#[derive(Drop)]
+#[derive(Clone, Copy)]
 pub enum RecordFound {
     Record(Failure),
     Refused(Refusal),

@@ -1,4 +1,6 @@
 // Slow-control frames: 28 bytes that carry a board's settings, ping it, or ask for its trigger rates.
+#![tactic(auto)]
+
 ghost use Rattle.std.specs.Prelude.{◌≡◌, [], ◌∷◌, ◌++◌, take};
 ghost use Rattle.frames.specs.Frames.{code_of, words_for, frame_with, frame_of};
 ghost use Rattle.frames.specs.CodeShape.{five_of, before_crc};
@@ -9,7 +11,7 @@ use numbers::word_bytes;
 use table_crc::crc8;
 
 // What a frame is for.
-#[derive(Drop)]
+#[derive(Clone, Copy)]
 pub enum Code {
     Dacs,
     Enables,

@@ -1,4 +1,6 @@
 // The FTU list: what a ping found of each board, as a block sent out.
+#![tactic(auto)]
+
 ghost use Rattle.std.specs.Prelude.{◌≡◌, [], ◌++◌, ◌-◌, ◌<◌, ◌≤◌, length, take, drop};
 ghost use Rattle.blocks.specs.Blocks.{WroteBlock};
 ghost use Rattle.ftu_list.specs.List.{entry_words, entry_words_from, answered, list_head, list_body};
@@ -10,7 +12,7 @@ use refusals::Written;
 use words::copy_words;
 
 // What a ping found of a board. One that did not answer has no calls.
-#[derive(Drop)]
+#[derive(Clone, Copy)]
 pub struct Entry {
     pub dna: u64,
     // How many calls it needed.
@@ -18,7 +20,7 @@ pub struct Entry {
     pub crc_errors: u8,
 }
 
-#[derive(Drop)]
+#[derive(Clone, Copy)]
 pub struct FtuList {
     // The four active words as stored when the ping began.
     pub active: [u16; 4],

@@ -1,4 +1,6 @@
 // 01's listing: for each command on standard input its ordinal, a space and its answer, one line each.
+#![tactic(auto)]
+
 use libc::{STDIN_FILENO, STDOUT_FILENO};
 use stream::{input_buffer, list_answers};
 

@@ -1,4 +1,6 @@
 // The reader of trigger packets, for the far end.
+#![tactic(auto)]
+
 ghost use Rattle.std.specs.Prelude.{◌≡◌};
 ghost use Rattle.packet_reader.specs.Reading.{number_in, fields_in, read_meaning, packet_answer};
 
@@ -8,7 +10,7 @@ use quick_crc::crc_of_six;
 use refusals::Refusal;
 
 // What reading finds: a packet, or a refusal.
-#[derive(Drop)]
+#[derive(Clone, Copy)]
 pub enum PacketRead {
     Read(Packet),
     Refused(Refusal),

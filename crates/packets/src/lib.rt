@@ -1,4 +1,6 @@
 // Trigger packets: seven bytes, written from a number and its fields.
+#![tactic(auto)]
+
 ghost use Rattle.std.specs.Prelude.{◌≡◌, ◌<◌, ◌≤◌};
 ghost use Rattle.packets.specs.Packets.{bit_of, in_range, packet_bytes, write_rules, WrotePacket};
 
@@ -6,7 +8,7 @@ use crc::{PACKET_START, crc_of_six};
 use refusals::{Refusal, Written};
 
 // What a trigger's caller gives: all of a packet's fields but its number.
-#[derive(Drop)]
+#[derive(Clone, Copy)]
 pub struct Fields {
     // The n of "n-out-of-40", 0 to 40.
     pub n: u8,
@@ -20,7 +22,7 @@ pub struct Fields {
     pub lp1: bool,
 }
 
-#[derive(Drop)]
+#[derive(Clone, Copy)]
 pub struct Packet {
     pub number: u32,
     pub fields: Fields,

@@ -1,5 +1,7 @@
 // The CRC-8 of six bytes by closed forms of its polynomial, for the far end's packet reader alone: it runs on a computer, where time matters and room
 // does not. The controller has the same CRC by a table of sixteen, `crc` (02, e), with the definition and the laws of both.
+#![tactic(auto)]
+
 ghost use Rattle.std.specs.Prelude.{◌≡◌, [], ◌∷◌};
 ghost use Rattle.crc.specs.Crc.{crc};
 

@@ -1,11 +1,13 @@
 // Replays a script from standard input on a fresh board, and prints a line for each of its lines.
+#![tactic(auto)]
+
 use board::{Board, power_up};
 use exchange::serve_line;
 use libc::{STDIN_FILENO, STDOUT_FILENO};
 use script::{Reading, line_begun, read_on};
 
 // The board, and what is read of the next line.
-#[derive(Drop)]
+#[derive(Clone, Copy)]
 struct ReplayState {
     board: Board,
     reading: Reading,

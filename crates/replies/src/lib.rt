@@ -1,4 +1,6 @@
 // Replies to slow-control frames: when one is good, and what a good reply to a ping and one with rates carry.
+#![tactic(auto)]
+
 ghost use Rattle.std.specs.Prelude.{◌≡◌, ◌-◌, ◌<◌, length, get_or};
 ghost use Rattle.replies.specs.Replies.{same_from, dna_in, count_in, rate_data, data_right, good_reply, carried_in, rates_in};
 
@@ -10,7 +12,7 @@ use table_crc::crc8;
 const COUNT_LIMIT: u32 = 1073741824;
 
 // What a ping reply carries.
-#[derive(Drop)]
+#[derive(Clone, Copy)]
 pub struct PingReply {
     pub dna: u64,
     pub crc_errors: u8,

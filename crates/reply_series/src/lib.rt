@@ -1,5 +1,7 @@
 // Replies and time-ups one after another, on the whole board or on the crates alone. An item is a crate's number, and for a reply its 28
 // bytes. Every item lends the same bytes for the next frame, so after the last they hold what the last frame given left there.
+#![tactic(auto)]
+
 ghost use Rattle.std.specs.Prelude.{◌≡◌, ◌≤◌};
 ghost use Rattle.refusals.specs.Tables.{is_given};
 ghost use Rattle.crate_pass.specs.Crate.{reply_meaning};

@@ -1,4 +1,6 @@
 // What is printed for an answer: a refusal, an obeyed command, a served reply, what a writer wrote.
+#![tactic(auto)]
+
 ghost use Rattle.refusals.specs.Refusals.{number_of, place_of};
 ghost use Rattle.refusals.specs.Writing.{written_meaning};
 ghost use Rattle.acceptance.specs.Acceptance.{answer_meaning};

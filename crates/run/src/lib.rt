@@ -1,4 +1,6 @@
 // The run: whether and how long the board takes events, its three counters, and whether the configuration is fresh, and if not why.
+#![tactic(auto)]
+
 ghost use Rattle.std.specs.Prelude.{◌≡◌, ◌<◌};
 ghost use Rattle.run.specs.Run.{is_running, is_fresh, used_by, at_power_up, started, stopped, with_freshness, refreshed, after_crate_reset};
 ghost use Rattle.run.specs.Run.{clocked, clocked_run};
@@ -9,7 +11,7 @@ use packets::{Fields, Packet, in_range, write_packet};
 use refusals::{Refusal, Written};
 
 // Whether events are taken, and how many.
-#[derive(Drop)]
+#[derive(Clone, Copy)]
 pub enum Running {
     Stopped,
     Endless,
@@ -18,7 +20,7 @@ pub enum Running {
 
 // What became of the configuration: no write was ever accepted, or the last one is fresh, or a run or a crate reset used it up, whichever came
 // first.
-#[derive(Drop)]
+#[derive(Clone, Copy)]
 pub enum Freshness {
     NeverWritten,
     Fresh,
@@ -26,7 +28,7 @@ pub enum Freshness {
     UsedByReset,
 }
 
-#[derive(Drop)]
+#[derive(Clone, Copy)]
 pub struct Run {
     pub running: Running,
     // Fresh from an accepted write on, until a start or a crate reset.
@@ -38,7 +40,7 @@ pub struct Run {
 }
 
 // The run after a trigger, and what the trigger answered.
-#[derive(Drop)]
+#[derive(Clone, Copy)]
 pub struct Triggered {
     pub run: Run,
     pub answer: Written,

@@ -1,10 +1,12 @@
 // The lines of a replay script: a letter and hexadecimal digits, read a character at a time.
+#![tactic(auto)]
+
 ghost use Rattle.std.specs.Prelude.{◌≡◌};
 ghost use Rattle.script.specs.Script.{value_of};
 ghost use Rattle.script.specs.ByCharacter.{line_begun, in_form, order_on, order_bytes_on, read_on, bytes_on};
 
 // What a line is as far as it is read.
-#[derive(Drop)]
+#[derive(Clone, Copy)]
 pub enum Form {
     Empty,
     Comment,
@@ -14,7 +16,7 @@ pub enum Form {
 }
 
 // What is read of a line; the bytes that its digits make stand in an array beside it.
-#[derive(Drop)]
+#[derive(Clone, Copy)]
 pub struct Reading {
     pub form: Form,
     // Of an order: its letter, and how many digits followed.

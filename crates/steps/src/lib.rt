@@ -1,4 +1,6 @@
 // A step of a pass on the line: the frame that it sends, and the reply to it, judged.
+#![tactic(auto)]
+
 ghost use Rattle.std.specs.Prelude.{◌≡◌, []};
 ghost use Rattle.refusals.specs.Writing.{Wrote};
 ghost use Rattle.steps.specs.Steps.{code_numbered, step_frame, judged_reply, no_reply, judged_event};
@@ -9,14 +11,14 @@ use refusals::{Refusal, Written};
 use replies::{carried, is_good, rates_in};
 
 // What follows a frame: a reply, or none in time.
-#[derive(Drop)]
+#[derive(Clone, Copy)]
 pub enum Event {
     Reply,
     TimeUp,
 }
 
 // What a reply or a time-up says as the answer to a frame: whether it is good, and what a reply to a ping and one with rates carry.
-#[derive(Drop)]
+#[derive(Clone, Copy)]
 pub struct Judged {
     pub good: bool,
     pub dna: u64,

@@ -1,4 +1,6 @@
 // A stream of commands, obeyed on a fresh board whose FTUs are always silent: what the listing decides.
+#![tactic(auto)]
+
 ghost use Rattle.std.specs.Prelude.{◌≡◌, ◌≤◌, length, replicate};
 ghost use Rattle.refusals.specs.Tables.{answer_number};
 ghost use Rattle.words.specs.Words.{words_in};
@@ -12,7 +14,7 @@ use steps::Event;
 use words::words_from_bytes;
 
 // The answers to the commands of a stream, in their order.
-#[derive(Drop)]
+#[derive(Clone, Copy)]
 pub struct Listing {
     // The ordinal of the first.
     pub first: usize,

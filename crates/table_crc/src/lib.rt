@@ -1,6 +1,8 @@
 // The CRC-8 of trigger packets and slow-control frames, four bits at a step with a table of sixteen. This is the form of the controller: the bench
 // unit's soft core has no room for 256 entries, and eight turns a byte are too many for it (02, e). The far end's packet reader, on a computer, has
 // the same CRC by a quicker form, `quick_crc`.
+#![tactic(auto)]
+
 ghost use Rattle.std.specs.Prelude.{◌≡◌};
 ghost use Rattle.crc.specs.Crc.{crc_bits, crc_byte, crc};
 ghost use Rattle.table_crc.specs.CodeShape.{table_of_sixteen};

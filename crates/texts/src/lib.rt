@@ -1,4 +1,6 @@
 // The line that is printed for an answer, or to explain a command.
+#![tactic(auto)]
+
 ghost use Rattle.std.specs.Prelude.{◌≡◌, ◌∷◌, ◌++◌, map, ◌+◌, ◌*◌, ◌≤◌, ◌<◌, min, length, take};
 ghost use Rattle.packets.specs.Packets.{bit_of};
 ghost use Rattle.explanations.specs.Explaining.{allowed_meaning, reason_meaning, explanation_meaning};
@@ -17,7 +19,7 @@ use packets::Packet;
 use run::Freshness;
 
 // What is printed. The bytes and words stand in arrays beside it.
-#[derive(Drop)]
+#[derive(Clone, Copy)]
 pub enum Response {
     // A line in another form.
     Question,

@@ -1,0 +1,42 @@
+-- `blocks::write_failure` meets its contract. Assumes nothing.
+use Prim.Native.Nat.{suc}
+use mathlib.Core.Path.{◌≡◌, ap}
+use mathlib.Core.List.{[]}
+use lib.ListN.{length}
+use Rattle.blocks.specs.Blocks.{failure_body}
+use Rattle.blocks.proofs.Laws.{header-room, block_refused, block-wrote}
+use borrow.Author.Rules.{rules}
+use native.Mathlib.Omega.{arith}
+use Rattle.blocks.proofs.write_failure.Goals as goal
+
+pub slice_bounds-put_failure-count : goal.slice_bounds-put_failure-count
+slice_bounds-put_failure-count c =
+    let put = c.put_header in
+    let a = c.args in
+    let room = header-room a.h 40 a.out.now put.result _ put.ensures _ c.in-Length.is in
+    omega arith
+
+pub slice_bounds-put_failure-start : goal.slice_bounds-put_failure-start
+slice_bounds-put_failure-start c = ?
+
+pub put_failure-requires : goal.put_failure-requires
+put_failure-requires c =
+    let put = c.put_header in
+    let a = c.args in
+    let room = header-room a.h 40 a.out.now put.result _ put.ensures _ c.in-Length.is in
+    omega arith
+
+pub returns-in-Length : goal.returns-in-Length
+returns-in-Length c =
+    let put = c.put_header in
+    let a = c.args in
+    let n : length a.frame ≡ 28 = search rules in
+    block-wrote [] tt a.h _ a.out.now 29 (ap suc n) put.result _ put.ensures _ c.in-Length.is
+    (search rules) _ c.put_failure.ensures
+
+pub returns-in-Refused : goal.returns-in-Refused
+returns-in-Refused c =
+    let put = c.put_header in
+    let a = c.args in
+    let n : length a.frame ≡ 28 = search rules in
+    block_refused [] tt a.h (failure_body a.calls a.frame) a.out.now 29 (ap suc n) put.result _ put.ensures _ c.in-Refused.is

@@ -1,0 +1,14 @@
+use Prim.Native.Nat.{◌-◌, ◌<◌, ◌≤◌}
+use mathlib.Core.Path.{◌≡◌, refl, sym, ◌∙◌}
+use borrow.Author.Rules.{rules}
+use native.Mathlib.Omega.{arith}
+use Rattle.replies.specs.Replies.{count_in, count_limit, counts_below, rate_data}
+use Rattle.replies.proofs.Counts.{count-below, count-above}
+use Rattle.replies.proofs.counts_below.Given as goal
+
+-- `replies::counts_below` meets its contract: the counts looked at are below, so those left decide. Assumes nothing.
+abbrev pub invariant-loop-patch : goal.invariant-loop-patch
+invariant-loop-patch l = counts_below (5 - l.patch) l.patch l.reply ≡ rate_data l.reply
+
+abbrev pub decreases-loop-patch : goal.decreases-loop-patch
+decreases-loop-patch l = 5 - l.patch

@@ -1,0 +1,22 @@
+-- `replies::rates_in` meets its contract: each count's two words are its digits. Assumes nothing.
+use mathlib.Core.Path.{ap, ◌∙◌}
+use Rattle.numbers.specs.Numbers.{digits}
+use Rattle.replies.proofs.Counts.{as-word, rates-of}
+use borrow.Author.Rules.{rules}
+use native.Mathlib.Omega.{arith}
+use Rattle.replies.proofs.rates_in.Goals as goal
+
+pub returns : goal.returns
+returns c =
+    
+    
+    rates-of _ _ _ _ _ _
+    (c.words32-a.ensures ∙ ap (digits 65536 2) c.count_in.ensures)
+    (c.words32-b.ensures ∙ ap (digits 65536 2) c.count_in-2.ensures)
+    (c.words32-c.ensures ∙ ap (digits 65536 2) c.count_in-3.ensures)
+    (c.words32-d.ensures ∙ ap (digits 65536 2) c.count_in-4.ensures)
+    (c.words32-total.ensures ∙ ap (digits 65536 2) c.count_in-5.ensures)
+    _
+    _
+    (as-word _ _ c.byte_at.ensures (omega arith))
+    (as-word _ _ c.byte_at-2.ensures (omega arith))

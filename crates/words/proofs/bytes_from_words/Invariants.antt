@@ -1,0 +1,19 @@
+use Prim.Native.Nat.{◌≤◌, ◌-◌, ◌*◌}
+use mathlib.Core.Path.{◌≡◌, ◌∙◌}
+use mathlib.Core.List.{[], ◌++◌}
+use native.Mathlib.Numerals.{add-one}
+use lib.ListN.{length, take, drop, length-set}
+use lib.Seq.{take-length}
+use Rattle.refusals.proofs.Writing.{wrote, wrote-short}
+use Rattle.words.specs.Words.{bytes_of}
+use Rattle.words.proofs.Bytes.{length-bytes, bytes-more}
+use borrow.Author.Rules.{rules}
+use native.Mathlib.Omega.{arith}
+use Rattle.words.proofs.bytes_from_words.Given as goal
+
+-- `words::bytes_from_words` meets its contract. Assumes nothing.
+abbrev pub invariant-loop-i : goal.invariant-loop-i
+invariant-loop-i l = (l.i ≤ length l.words) × (l.out ≡ bytes_of (take l.i l.words) ++ drop (2 * l.i) l.initial.out) × (length l.out ≡ length l.initial.out)
+
+abbrev pub decreases-loop-i : goal.decreases-loop-i
+decreases-loop-i l = length l.words - l.i
