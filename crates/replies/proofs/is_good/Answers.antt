@@ -5,7 +5,6 @@ use mathlib.Core.Path.{◌∙◌, sym, ap}
 use lib.Seq.{take_all}
 use Rattle.replies.specs.Replies.{data_right}
 use lib.ListN.{length-take}
-use borrow.Author.Rules.{rules}
 use native.Mathlib.Omega.{arith}
 use Rattle.replies.proofs.is_good.Goals as goal
 
