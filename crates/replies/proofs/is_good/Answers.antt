@@ -42,7 +42,7 @@ pub returns : goal.returns
 returns c =
     let a = c.args in
     let r = a.reply.now in
-    let byte = c.shared_slice_known-5-1.given 27 in
+    let byte = c.type_inv.reply 27 in
     by-data _ _ (omega arith) (omega arith) (omega arith) (omega arith) (omega arith)
     (zero_right r (omega arith) (omega (arith, byte)) (sym c.crc8.ensures ∙ c.if-crc8-ne0.false))
     _
