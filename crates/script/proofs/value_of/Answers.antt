@@ -1,6 +1,5 @@
 -- `script::value_of` meets its contract. Assumes nothing.
 use Rattle.script.proofs.Characters.{value-decimal, value-capital, value-small, value_before, value-between, value-between-cases, value_after}
-use borrow.Author.Rules.{rules}
 use native.Mathlib.Omega.{arith}
 use Rattle.script.proofs.value_of.Goals as goal
 
