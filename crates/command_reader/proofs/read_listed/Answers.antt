@@ -21,16 +21,20 @@ pub returns-in-Above : goal.returns-in-Above
 returns-in-Above c =
     let checked = c.check_bounds in
     let is-write = sym c.is_write.ensures ∙ c.if-is_write.true in
-    read-8 _ _ c.requires (sym c.spare_set.ensures ∙ c.if-spare_set.false) (omega arith) (sym c.no_events.ensures ∙ c.if-no_events.false) is-write checked.result checked.ensures _ c.in-Above.is
+    read-8 _ _ c.requires (sym c.spare_set.ensures ∙ c.if-spare_set.false) (omega arith)
+    (sym c.no_events.ensures ∙ c.if-no_events.false) is-write checked.result checked.ensures _ c.in-Above.is
 
 pub returns-in-Within : goal.returns-in-Within
 returns-in-Within c =
     let checked = c.check_bounds in
     let is-write = sym c.is_write.ensures ∙ c.if-is_write.true in
-    read-within _ _ c.requires (sym c.spare_set.ensures ∙ c.if-spare_set.false) (omega arith) (sym c.no_events.ensures ∙ c.if-no_events.false) _ (ap (λ (n : ℕ). 5 + n) c.block_length-used.ensures) is-write checked.result checked.ensures
+    read-within _ _ c.requires (sym c.spare_set.ensures ∙ c.if-spare_set.false) (omega arith)
+    (sym c.no_events.ensures ∙ c.if-no_events.false) _ (ap (λ (n : ℕ). 5 + n) c.block_length-used.ensures)
+    is-write checked.result checked.ensures
     c.in-Within.is
 
 pub returns-else-is_write : goal.returns-else-is_write
 returns-else-is_write c =
     let other = sym c.is_write.ensures ∙ c.if-is_write.false in
-    read-other _ _ c.requires (sym c.spare_set.ensures ∙ c.if-spare_set.false) (omega arith) (sym c.no_events.ensures ∙ c.if-no_events.false) _ (ap (λ (n : ℕ). 5 + n) c.block_length-used.ensures) other
+    read-other _ _ c.requires (sym c.spare_set.ensures ∙ c.if-spare_set.false) (omega arith)
+    (sym c.no_events.ensures ∙ c.if-no_events.false) _ (ap (λ (n : ℕ). 5 + n) c.block_length-used.ensures) other
