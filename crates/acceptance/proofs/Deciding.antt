@@ -28,7 +28,10 @@ module _ (w : List ℕ) (s : Status) where
   pub decides-refused : (r : Refusal) → refusal_meaning r ≡ command_answer w → Decides w s (record { answer = Refused r; used = 0 })
   unfolding decided command_answer
   decides-refused r e =
-      record { answer = sym (refused-more (read_rules w) (state_rules (command_in w) s) _ (command_in w) (number_of r) (place_of r) (sym e)); used = ap used_of e }
+      record {
+        answer = sym (refused-more (read_rules w) (state_rules (command_in w) s) _ (command_in w) (number_of r) (place_of r) (sym e));
+        used = ap used_of e;
+      }
 
   -- the words name the command c: what is left is the state
   module _ (c : Command) (n : ℕ) (e : command_answer w ≡ given (taken c n)) where

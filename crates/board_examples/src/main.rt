@@ -8,18 +8,18 @@ use board::{Board, PassBegun, power_up};
 use crate_pass::{Outcome, ReplyAnswer};
 use crc::{FRAME_START, crc8};
 use four_crates::{FramesSent, in_pass};
-use libc::STDOUT_FILENO;
 use refusals::Written;
+use std::io;
 use steps::Event;
 use stream::{list_answers, run_out};
 use words::bytes_from_words;
 
-fn text(s: &[u8]) {
-    io::write_all(STDOUT_FILENO, s);
+fn text(rt: &impl Print, s: &str) -> io::Result<()> {
+    rt.print(s)
 }
 
-fn decimal(n: u64) {
-    io::print_decimal(STDOUT_FILENO, n);
+fn decimal(rt: &impl Print, n: u64) -> io::Result<()> {
+    rt.print(n)
 }
 
 // A write of zeros with one word at a place.
@@ -86,47 +86,45 @@ fn third_try(line: Line) -> Line {
 }
 
 // How many frames were sent on crate 0, and whether the board is idle, running, or in a pass.
-fn tell_board(board: Board) {
+fn tell_board(rt: &impl Print, board: Board) -> io::Result<()> {
     let run = board.run;
     let crates = board.crates;
     match board.frames_sent(0) {
-        FramesSent::Number(n) => decimal(n as u64),
-        FramesSent::Refused(_) => text(b"no such crate"),
+        FramesSent::Number(n) => decimal(rt, n as u64)?,
+        FramesSent::Refused(_) => text(rt, "no such crate")?,
     }
-    text(b" frames");
+    text(rt, " frames")?;
     if board.is_idle() {
-        text(b", idle");
+        text(rt, ", idle")?;
     }
     if run.is_running() {
-        text(b", running");
+        text(rt, ", running")?;
     }
     if in_pass(crates) {
-        text(b", in a pass");
+        text(rt, ", in a pass")?;
     }
-    text(b"\n");
+    text(rt, "\n")
 }
 
-fn tell(name: &[u8], line: Line) {
+fn tell(rt: &impl Print, name: &str, line: Line) -> io::Result<()> {
     let board = line.board;
-    text(name);
-    tell_board(board);
+    text(rt, name)?;
+    tell_board(rt, board)
 }
 
 // ---- 02, d: lent bytes
 
-fn hexadecimal_byte(b: u8) {
-    io::print_hex(STDOUT_FILENO, b as u64, 2);
+fn hexadecimal_byte(rt: &impl Print, b: u8) -> io::Result<()> {
+    print!(rt; "{b:02x}")
 }
 
 // Bytes in hexadecimal, a line.
-fn hexadecimal(name: &[u8], bytes: &[u8]) {
-    text(name);
-    let mut i = 0;
-    while i < bytes.len() {
-        hexadecimal_byte(bytes[i]);
-        i += 1;
+fn hexadecimal(rt: &impl Print, name: &str, bytes: &[u8]) -> io::Result<()> {
+    text(rt, name)?;
+    for byte in bytes {
+        hexadecimal_byte(rt, *byte)?;
     }
-    text(b"\n");
+    text(rt, "\n")
 }
 
 // What the bytes hold before they are lent.
@@ -139,142 +137,153 @@ fn fill(bytes: &mut [u8]) {
 }
 
 // The begin of a line, and the bytes before the call.
-fn tell_lent(name: &[u8], bytes: &[u8]) {
-    text(name);
-    decimal(bytes.len() as u64);
-    text(b" bytes lent");
-    hexadecimal(b"\n  before ", bytes);
-    text(b"  ");
+fn tell_lent(rt: &impl Print, name: &str, bytes: &[u8]) -> io::Result<()> {
+    text(rt, name)?;
+    decimal(rt, bytes.len() as u64)?;
+    text(rt, " bytes lent")?;
+    hexadecimal(rt, "\n  before ", bytes)?;
+    text(rt, "  ")
 }
 
-fn tell_done(done: bool) {
+fn tell_done(rt: &impl Print, done: bool) -> io::Result<()> {
     if done {
-        text(b" done");
+        text(rt, " done")?;
     }
+    Ok(())
 }
 
 // What a reply or a time-up got.
-fn tell_answer(answer: ReplyAnswer) {
+fn tell_answer(rt: &impl Print, answer: ReplyAnswer) -> io::Result<()> {
     match answer {
         ReplyAnswer::Served(o) => match o {
             Outcome::Good(done) => {
-                text(b"good");
-                tell_done(done);
+                text(rt, "good")?;
+                tell_done(rt, done)?;
             }
             Outcome::Again(done) => {
-                text(b"again");
-                tell_done(done);
+                text(rt, "again")?;
+                tell_done(rt, done)?;
             }
             Outcome::BoardFailed(done) => {
-                text(b"failed");
-                tell_done(done);
+                text(rt, "failed")?;
+                tell_done(rt, done)?;
             }
         },
-        ReplyAnswer::Refused(r) => decimal(r.number() as u64),
+        ReplyAnswer::Refused(r) => decimal(rt, r.number() as u64)?,
     }
+    Ok(())
 }
 
 // A good reply or a time-up on crate 0, with these bytes lent.
-fn lend(name: &[u8], line: Line, event: Event, bytes: &mut [u8]) {
+fn lend(rt: &impl Print, name: &str, line: Line, event: Event, bytes: &mut [u8]) -> io::Result<()> {
     let board = line.board;
     let frame = line.frame;
     let reply = exchanged(frame);
     fill(bytes);
-    tell_lent(name, bytes);
+    tell_lent(rt, name, bytes)?;
     let r = board.hand_in(0, event, &reply, bytes);
     let answer = r.answer;
     let next = r.board;
-    tell_answer(answer);
-    text(b", ");
-    tell_board(next);
-    hexadecimal(b"  after  ", bytes);
+    tell_answer(rt, answer)?;
+    text(rt, ", ")?;
+    tell_board(rt, next)?;
+    hexadecimal(rt, "  after  ", bytes)
 }
 
 // The first frame of crate 0, with these bytes lent.
-fn fetch(name: &[u8], line: Line, bytes: &mut [u8]) {
+fn fetch(rt: &impl Print, name: &str, line: Line, bytes: &mut [u8]) -> io::Result<()> {
     let board = line.board;
     fill(bytes);
-    tell_lent(name, bytes);
+    tell_lent(rt, name, bytes)?;
     match board.first_frame(0, bytes) {
-        Written::Length(n) => decimal(n as u64),
-        Written::Refused(r) => decimal(r.number() as u64),
+        Written::Length(n) => decimal(rt, n as u64)?,
+        Written::Refused(r) => decimal(rt, r.number() as u64)?,
     }
-    text(b", ");
-    tell_board(board);
-    hexadecimal(b"  after  ", bytes);
+    text(rt, ", ")?;
+    tell_board(rt, board)?;
+    hexadecimal(rt, "  after  ", bytes)
 }
 
 // A frame is due.
-fn lend_due(bytes: &mut [u8]) {
+fn lend_due(rt: &impl Print, bytes: &mut [u8]) -> io::Result<()> {
     lend(
-        b"A good reply, a frame due, ",
+        rt,
+        "A good reply, a frame due, ",
         written(1),
         Event::Reply,
         bytes,
-    );
+    )
 }
 
 // The crate is then done.
-fn lend_done(bytes: &mut [u8]) {
+fn lend_done(rt: &impl Print, bytes: &mut [u8]) -> io::Result<()> {
     let line = time_up(time_up(written(1)));
     lend(
-        b"A time-up, the crate then done, ",
+        rt,
+        "A time-up, the crate then done, ",
         line,
         Event::TimeUp,
         bytes,
-    );
+    )
 }
 
 // Nothing is outstanding.
-fn lend_none(bytes: &mut [u8]) {
+fn lend_none(rt: &impl Print, bytes: &mut [u8]) -> io::Result<()> {
     lend(
-        b"A time-up, nothing outstanding, ",
+        rt,
+        "A time-up, nothing outstanding, ",
         written(0),
         Event::TimeUp,
         bytes,
-    );
+    )
 }
 
 // These with 0, 27, 28 and 40 bytes lent.
-fn lend_bytes() {
+fn lend_bytes(rt: &impl Print) -> io::Result<()> {
     let mut one = [0u8; 1];
     let mut few = [0u8; 27];
     let mut enough = [0u8; 28];
     let mut more = [0u8; 40];
-    lend_due(&mut one[..0]);
-    lend_due(&mut few);
-    lend_due(&mut enough);
-    lend_due(&mut more);
-    lend_done(&mut one[..0]);
-    lend_done(&mut few);
-    lend_done(&mut enough);
-    lend_done(&mut more);
-    lend_none(&mut few);
-    lend_none(&mut enough);
+    lend_due(rt, &mut one[..0])?;
+    lend_due(rt, &mut few)?;
+    lend_due(rt, &mut enough)?;
+    lend_due(rt, &mut more)?;
+    lend_done(rt, &mut one[..0])?;
+    lend_done(rt, &mut few)?;
+    lend_done(rt, &mut enough)?;
+    lend_done(rt, &mut more)?;
+    lend_none(rt, &mut few)?;
+    lend_none(rt, &mut enough)
 }
 
 // The first frame, with as many.
-fn fetch_bytes() {
+fn fetch_bytes(rt: &impl Print) -> io::Result<()> {
     let mut one = [0u8; 1];
     let mut few = [0u8; 27];
     let mut enough = [0u8; 28];
     let mut more = [0u8; 40];
-    fetch(b"The first frame, ", written(1), &mut one[..0]);
-    fetch(b"The first frame, ", written(1), &mut few);
-    fetch(b"The first frame, ", written(1), &mut enough);
-    fetch(b"The first frame, ", written(1), &mut more);
+    fetch(rt, "The first frame, ", written(1), &mut one[..0])?;
+    fetch(rt, "The first frame, ", written(1), &mut few)?;
+    fetch(rt, "The first frame, ", written(1), &mut enough)?;
+    fetch(rt, "The first frame, ", written(1), &mut more)
 }
 
 // It is refused after a counted time-up.
-fn fetch_late() {
+fn fetch_late(rt: &impl Print) -> io::Result<()> {
     let mut few = [0u8; 27];
     let mut enough = [0u8; 28];
-    fetch(b"After a counted time-up, ", time_up(written(1)), &mut few);
     fetch(
-        b"After a counted time-up, ",
+        rt,
+        "After a counted time-up, ",
+        time_up(written(1)),
+        &mut few,
+    )?;
+    fetch(
+        rt,
+        "After a counted time-up, ",
         time_up(written(1)),
         &mut enough,
-    );
+    )
 }
 
 // ---- 02, i: rate passes
@@ -288,18 +297,18 @@ fn running(flags: u16) -> Board {
 }
 
 // A rate pass begins, or not: 0 where it does.
-fn begin(name: &[u8], board: Board) -> Board {
-    text(name);
+fn begin(rt: &impl Print, name: &str, board: Board) -> io::Result<Board> {
+    text(rt, name)?;
     let begun = board.begin_rate_pass();
     let answer = begun.answer;
     let next = begun.board;
     match answer {
-        PassBegun::Begun => decimal(0),
-        PassBegun::Refused(r) => decimal(r.number() as u64),
+        PassBegun::Begun => decimal(rt, 0)?,
+        PassBegun::Refused(r) => decimal(rt, r.number() as u64)?,
     }
-    text(b", ");
-    tell_board(next);
-    next
+    text(rt, ", ")?;
+    tell_board(rt, next)?;
+    Ok(next)
 }
 
 // A reply with rates to a frame of crate 0: counts of 0x01020304, 0x3FFFFFFF, 0, 65536 and 10, overflow 0xAB, CRC errors 0xCD.
@@ -312,20 +321,20 @@ fn rates(frame: [u8; 28]) -> [u8; 28] {
 }
 
 // The first frame of crate 0, and a good reply to it.
-fn serve(board: Board) -> Board {
+fn serve(rt: &impl Print, board: Board) -> io::Result<Board> {
     let mut frame = [0u8; 28];
     board.first_frame(0, &mut frame);
-    hexadecimal(b"The first frame: ", &frame);
+    hexadecimal(rt, "The first frame: ", &frame)?;
     let reply = rates(frame);
     let r = board.hand_in(0, Event::Reply, &reply, &mut frame);
     let answer = r.answer;
     let next = r.board;
-    hexadecimal(b"Its reply: ", &reply);
-    text(b"The reply is ");
-    tell_answer(answer);
-    text(b", ");
-    tell_board(next);
-    next
+    hexadecimal(rt, "Its reply: ", &reply)?;
+    text(rt, "The reply is ")?;
+    tell_answer(rt, answer)?;
+    text(rt, ", ")?;
+    tell_board(rt, next)?;
+    Ok(next)
 }
 
 // 1 for a word that is not zero, else 0.
@@ -348,60 +357,62 @@ fn not_zero(words: &[u16]) -> usize {
 
 // The dynamic block with temperatures 1 to 4: in hexadecimal its on-time, the temperatures and the first board's words; how many others of the body are
 // not zero.
-fn dynamic(name: &[u8], board: Board) {
+fn dynamic(rt: &impl Print, name: &str, board: Board) -> io::Result<()> {
     let mut block = [0u16; 498];
     let mut bytes = [0u8; 38];
     board.dynamic_block(&[1, 2, 3, 4], &mut block);
     bytes_from_words(&block[11..30], &mut bytes);
-    hexadecimal(name, &bytes);
-    text(b"  other words not zero: ");
-    decimal(not_zero(&block[30..]) as u64);
-    text(b"\n");
+    hexadecimal(rt, name, &bytes)?;
+    text(rt, "  other words not zero: ")?;
+    decimal(rt, not_zero(&block[30..]) as u64)?;
+    text(rt, "\n")
 }
 
 // One begins while the board runs; another has no active board.
-fn rate_passes() {
-    let board = begin(b"A rate pass while running: ", running(1));
-    let same = begin(b"Another during it: ", board);
-    dynamic(b"The dynamic block during it: ", same);
-    let done = serve(same);
-    dynamic(b"The dynamic block after it: ", done);
-    begin(b"A rate pass after it: ", done);
-    begin(b"A rate pass with no active board: ", running(0));
+fn rate_passes(rt: &impl Print) -> io::Result<()> {
+    let board = begin(rt, "A rate pass while running: ", running(1))?;
+    let same = begin(rt, "Another during it: ", board)?;
+    dynamic(rt, "The dynamic block during it: ", same)?;
+    let done = serve(rt, same)?;
+    dynamic(rt, "The dynamic block after it: ", done)?;
+    begin(rt, "A rate pass after it: ", done)?;
+    begin(rt, "A rate pass with no active board: ", running(0))?;
+    Ok(())
 }
 
 // The answer of an ordinal, where there is one.
-fn answer(answers: [u8; 6554], count: usize, i: usize) {
+fn answer(rt: &impl Print, answers: [u8; 6554], count: usize, i: usize) -> io::Result<()> {
     if i < count {
         if i < 6554 {
-            text(b" ");
-            decimal(answers[i] as u64);
+            text(rt, " ")?;
+            decimal(rt, answers[i] as u64)?;
         }
     }
+    Ok(())
 }
 
 // The answers of the listing to the first n bytes, three at most.
-fn answers(name: &[u8], bytes: [u8; 2048], n: usize) {
+fn answers(rt: &impl Print, name: &str, bytes: [u8; 2048], n: usize) -> io::Result<()> {
     if 2048 < n {
-        return;
+        return Ok(());
     }
     let listing = list_answers(&bytes[..n]);
     let given = listing.answers;
-    text(name);
-    answer(given, listing.count, 0);
-    answer(given, listing.count, 1);
-    answer(given, listing.count, 2);
-    text(b"\n");
+    text(rt, name)?;
+    answer(rt, given, listing.count, 0)?;
+    answer(rt, given, listing.count, 1)?;
+    answer(rt, given, listing.count, 2)?;
+    text(rt, "\n")
 }
 
-fn stream(name: &[u8], words: &[u16]) {
+fn stream(rt: &impl Print, name: &str, words: &[u16]) -> io::Result<()> {
     let mut bytes = [0u8; 2048];
     bytes_from_words(words, &mut bytes);
-    answers(name, bytes, 2 * words.len());
+    answers(rt, name, bytes, 2 * words.len())
 }
 
 // A write, a start, and three words more: fresh is what the start needs, and the pass that the write begins has run out before it.
-fn write_and_start() {
+fn write_and_start(rt: &impl Print) -> io::Result<()> {
     let block = write_with(0x1B2, 0x0005);
     let mut words = [0u16; 449];
     words::copy_words(&block, &mut words);
@@ -409,52 +420,56 @@ fn write_and_start() {
     words[442] = 0x04;
     words[443] = 1;
     words[446] = 0x0040;
-    stream(b"A write, a start, three words:", &words);
+    stream(rt, "A write, a start, three words:", &words)
 }
 
 // The examples of passes.
-fn passes() {
+fn passes(rt: &impl Print) -> io::Result<()> {
     tell(
-        b"One active board that never answers: ",
+        rt,
+        "One active board that never answers: ",
         time_up(time_up(time_up(written(1)))),
-    );
-    tell(b"The same after two: ", time_up(time_up(written(1))));
+    )?;
+    tell(rt, "The same after two: ", time_up(time_up(written(1))))?;
     tell(
-        b"Each step good at the third try: ",
+        rt,
+        "Each step good at the third try: ",
         third_try(third_try(third_try(written(1)))),
-    );
-    tell(b"No active board: ", written(0));
-    tell(b"A ping: ", sent(&[0x0040, 0x10, 0, 0, 0]));
+    )?;
+    tell(rt, "No active board: ", written(0))?;
+    tell(rt, "A ping: ", sent(&[0x0040, 0x10, 0, 0, 0]))
 }
 
 // The streams.
-fn streams() {
+fn streams(rt: &impl Print) -> io::Result<()> {
     stream(
-        b"A read, a ping, a crate reset:",
+        rt,
+        "A read, a ping, a crate reset:",
         &[
             0x0040, 0x01, 2, 0, 0, 0x0040, 0x10, 0, 0, 0, 0x0040, 0x20, 8, 0, 0,
         ],
-    );
-    write_and_start();
-    stream(b"Four words:", &[0x0040, 0x01, 1, 0]);
-    stream(b"Five, first 0x0041:", &[0x0041, 0x01, 1, 0, 0]);
-    stream(b"Command 3:", &[0x0040, 0x03, 1, 0, 0]);
-    stream(b"Reset with 3:", &[0x0040, 0x20, 3, 0, 0]);
-    stream(b"Word 4 not zero:", &[0x0040, 0x01, 1, 0, 1]);
-    stream(b"X of one word:", &[0x0040, 0x04, 2, 0, 0, 0x0001]);
-    stream(b"X = 0:", &[0x0040, 0x04, 2, 0, 0, 0, 0]);
-    stream(b"0x002 at 1024:", &write_with(0x002, 1024));
+    )?;
+    write_and_start(rt)?;
+    stream(rt, "Four words:", &[0x0040, 0x01, 1, 0])?;
+    stream(rt, "Five, first 0x0041:", &[0x0041, 0x01, 1, 0, 0])?;
+    stream(rt, "Command 3:", &[0x0040, 0x03, 1, 0, 0])?;
+    stream(rt, "Reset with 3:", &[0x0040, 0x20, 3, 0, 0])?;
+    stream(rt, "Word 4 not zero:", &[0x0040, 0x01, 1, 0, 1])?;
+    stream(rt, "X of one word:", &[0x0040, 0x04, 2, 0, 0, 0x0001])?;
+    stream(rt, "X = 0:", &[0x0040, 0x04, 2, 0, 0, 0, 0])?;
+    stream(rt, "0x002 at 1024:", &write_with(0x002, 1024))?;
     stream(
-        b"A stop, then a start:",
+        rt,
+        "A stop, then a start:",
         &[0x0040, 0x08, 0, 0, 0, 0x0040, 0x04, 1, 0, 0],
-    );
+    )
 }
 
-fn main() {
-    passes();
-    streams();
-    lend_bytes();
-    fetch_bytes();
-    fetch_late();
-    rate_passes();
+fn main(rt: HostRuntime) -> io::Result<()> {
+    passes(&rt)?;
+    streams(&rt)?;
+    lend_bytes(&rt)?;
+    fetch_bytes(&rt)?;
+    fetch_late(&rt)?;
+    rate_passes(&rt)
 }

@@ -5,17 +5,17 @@ use command_reader::{CommandRead, read_command};
 use commands::{Command, RunLength};
 use configuration::begin_of;
 use crc::{FRAME_START, crc8};
-use libc::STDOUT_FILENO;
 use packet_reader::{PacketRead, read_packet};
 use packets::{Fields, Packet, write_packet};
 use refusals::{Refusal, Written};
+use std::io;
 
-fn text(s: &[u8]) {
-    io::write_all(STDOUT_FILENO, s);
+fn text(rt: &impl Print, s: &str) -> io::Result<()> {
+    rt.print(s)
 }
 
-fn decimal(n: u64) {
-    io::print_decimal(STDOUT_FILENO, n);
+fn decimal(rt: &impl Print, n: u64) -> io::Result<()> {
+    rt.print(n)
 }
 
 // A hexadecimal digit, in capitals.
@@ -24,13 +24,13 @@ fn digit(n: u8) -> u8 {
     if d < 10 { 48 + d } else { 55 + d }
 }
 
-fn byte(b: u8) {
+fn byte(rt: &impl Print, b: u8) -> io::Result<()> {
     let two = [digit(b / 16), digit(b)];
-    text(&two);
+    rt.write_all(&two)
 }
 
 // A place, as 01 writes one.
-fn place(n: usize) {
+fn place(rt: &impl Print, n: usize) -> io::Result<()> {
     let five = [
         b'0',
         b'x',
@@ -38,75 +38,76 @@ fn place(n: usize) {
         digit((n / 16 % 16) as u8),
         digit((n % 16) as u8),
     ];
-    text(&five);
+    rt.write_all(&five)
 }
 
-fn refusal(r: Refusal) {
-    decimal(r.number() as u64);
+fn refusal(rt: &impl Print, r: Refusal) -> io::Result<()> {
+    decimal(rt, r.number() as u64)?;
     if let Refusal::AboveBound(at) = r {
-        text(b", place ");
-        place(at);
+        text(rt, ", place ")?;
+        place(rt, at)?;
     }
+    Ok(())
 }
 
-fn accepted(c: Command, used: usize) {
+fn accepted(rt: &impl Print, c: Command, used: usize) -> io::Result<()> {
     match c {
         Command::Start(run) => {
             if let RunLength::Counted(x) = run {
-                text(b"X = ");
-                decimal(x as u64);
-                text(b", ");
+                text(rt, "X = ")?;
+                decimal(rt, x as u64)?;
+                text(rt, ", ")?;
             }
         }
         Command::CrateReset(number) => {
-            text(b"crate ");
-            decimal(number as u64);
-            text(b", ");
+            text(rt, "crate ")?;
+            decimal(rt, number as u64)?;
+            text(rt, ", ")?;
         }
         Command::Read(_) => {}
         Command::Write => {}
         Command::Stop => {}
         Command::Ping => {}
     }
-    decimal(used as u64);
-    text(b" words used");
+    decimal(rt, used as u64)?;
+    text(rt, " words used")
 }
 
-fn command(name: &[u8], words: &[u16]) {
-    text(name);
+fn command(rt: &impl Print, name: &str, words: &[u16]) -> io::Result<()> {
+    text(rt, name)?;
     match read_command(words) {
-        CommandRead::Accepted(c, used) => accepted(c, used),
-        CommandRead::Refused(r) => refusal(r),
+        CommandRead::Accepted(c, used) => accepted(rt, c, used)?,
+        CommandRead::Refused(r) => refusal(rt, r)?,
     }
-    text(b"\n");
+    text(rt, "\n")
 }
 
 // A write of zeros with one word at a place.
-fn write_with(name: &[u8], at: usize, word: u16) {
+fn write_with(rt: &impl Print, name: &str, at: usize, word: u16) -> io::Result<()> {
     let mut words = [0u16; 441];
     words[0] = 0x0040;
     words[1] = 0x02;
     words[2] = 1;
     words[5 + at % 436] = word;
-    command(name, &words);
+    command(rt, name, &words)
 }
 
-fn spaced(b: u8) {
-    text(b" ");
-    byte(b);
+fn spaced(rt: &impl Print, b: u8) -> io::Result<()> {
+    text(rt, " ")?;
+    byte(rt, b)
 }
 
-fn seven(b: [u8; 7]) {
-    byte(b[0]);
-    spaced(b[1]);
-    spaced(b[2]);
-    spaced(b[3]);
-    spaced(b[4]);
-    spaced(b[5]);
-    spaced(b[6]);
+fn seven(rt: &impl Print, b: [u8; 7]) -> io::Result<()> {
+    byte(rt, b[0])?;
+    spaced(rt, b[1])?;
+    spaced(rt, b[2])?;
+    spaced(rt, b[3])?;
+    spaced(rt, b[4])?;
+    spaced(rt, b[5])?;
+    spaced(rt, b[6])
 }
 
-fn packet(name: &[u8], number: u32, n: u8, pedestal: bool) {
+fn packet(rt: &impl Print, name: &str, number: u32, n: u8, pedestal: bool) -> io::Result<()> {
     let fields = Fields {
         n,
         external1: false,
@@ -118,52 +119,53 @@ fn packet(name: &[u8], number: u32, n: u8, pedestal: bool) {
         lp1: false,
     };
     let mut bytes = [0u8; 7];
-    text(name);
+    text(rt, name)?;
     match write_packet(Packet { number, fields }, &mut bytes) {
-        Written::Length(_) => seven(bytes),
-        Written::Refused(r) => refusal(r),
+        Written::Length(_) => seven(rt, bytes)?,
+        Written::Refused(r) => refusal(rt, r)?,
     }
-    text(b"\n");
+    text(rt, "\n")
 }
 
-fn reading(name: &[u8], bytes: &[u8]) {
-    text(name);
+fn reading(rt: &impl Print, name: &str, bytes: &[u8]) -> io::Result<()> {
+    text(rt, name)?;
     match read_packet(bytes) {
         PacketRead::Read(p) => {
-            text(b"number ");
-            decimal(p.number as u64);
+            text(rt, "number ")?;
+            decimal(rt, p.number as u64)?;
         }
-        PacketRead::Refused(r) => refusal(r),
+        PacketRead::Refused(r) => refusal(rt, r)?,
     }
-    text(b"\n");
+    text(rt, "\n")
 }
 
-fn main() {
-    command(b"Four words: ", &[0x0040, 0x01, 1, 0]);
-    command(b"Five, first 0x0041: ", &[0x0041, 0x01, 1, 0, 0]);
+fn main(rt: HostRuntime) -> io::Result<()> {
+    command(&rt, "Four words: ", &[0x0040, 0x01, 1, 0])?;
+    command(&rt, "Five, first 0x0041: ", &[0x0041, 0x01, 1, 0, 0])?;
     command(
-        b"Take X with 0x0001 0x1170: ",
+        &rt,
+        "Take X with 0x0001 0x1170: ",
         &[0x0040, 0x04, 2, 0, 0, 0x0001, 0x1170],
-    );
-    command(b"X of one word: ", &[0x0040, 0x04, 2, 0, 0, 0x0001]);
-    command(b"X = 0: ", &[0x0040, 0x04, 2, 0, 0, 0, 0]);
-    command(b"Reset with 8: ", &[0x0040, 0x20, 8, 0, 0]);
-    command(b"With 3: ", &[0x0040, 0x20, 3, 0, 0]);
-    write_with(b"0x002 at 1023: ", 0x002, 1023);
-    write_with(b"0x002 at 1024: ", 0x002, 1024);
-    write_with(b"Crate 3's flags at 0x0400: ", 0x1B3, 0x0400);
-    text(b"Board 9 of crate 3 begins at ");
-    place(begin_of(3, 9));
-    text(b"\n");
-    packet(b"Number 1, all else zero: ", 1, 0, false);
-    packet(b"Number 1, n = 4: ", 1, 4, false);
-    packet(b"Number 2, pedestal: ", 2, 0, true);
-    packet(b"Six zero bytes: ", 0, 0, false);
-    reading(b"With 0xAF: ", &[0, 0, 0, 0, 0, 0, 0xAF]);
-    reading(b"Seven zero bytes: ", &[0, 0, 0, 0, 0, 0, 0]);
-    packet(b"n = 40: ", 0, 40, false);
-    packet(b"n = 41: ", 0, 41, false);
-    text(b"The ASCII digits 1 to 9 have CRC 0x");
-    byte(crc8(FRAME_START, b"123456789"));
-    text(b"\n");
+    )?;
+    command(&rt, "X of one word: ", &[0x0040, 0x04, 2, 0, 0, 0x0001])?;
+    command(&rt, "X = 0: ", &[0x0040, 0x04, 2, 0, 0, 0, 0])?;
+    command(&rt, "Reset with 8: ", &[0x0040, 0x20, 8, 0, 0])?;
+    command(&rt, "With 3: ", &[0x0040, 0x20, 3, 0, 0])?;
+    write_with(&rt, "0x002 at 1023: ", 0x002, 1023)?;
+    write_with(&rt, "0x002 at 1024: ", 0x002, 1024)?;
+    write_with(&rt, "Crate 3's flags at 0x0400: ", 0x1B3, 0x0400)?;
+    text(&rt, "Board 9 of crate 3 begins at ")?;
+    place(&rt, begin_of(3, 9))?;
+    text(&rt, "\n")?;
+    packet(&rt, "Number 1, all else zero: ", 1, 0, false)?;
+    packet(&rt, "Number 1, n = 4: ", 1, 4, false)?;
+    packet(&rt, "Number 2, pedestal: ", 2, 0, true)?;
+    packet(&rt, "Six zero bytes: ", 0, 0, false)?;
+    reading(&rt, "With 0xAF: ", &[0, 0, 0, 0, 0, 0, 0xAF])?;
+    reading(&rt, "Seven zero bytes: ", &[0, 0, 0, 0, 0, 0, 0])?;
+    packet(&rt, "n = 40: ", 0, 40, false)?;
+    packet(&rt, "n = 41: ", 0, 41, false)?;
+    text(&rt, "The ASCII digits 1 to 9 have CRC 0x")?;
+    byte(&rt, crc8(FRAME_START, b"123456789"))?;
+    text(&rt, "\n")
 }

@@ -1,4 +1,4 @@
-// Functions for programs in C or Rust, over numbers and slices: each makes a fresh board of its own where it needs one.
+// Functions for programs in C or Rust (crate `exports_c` hands them out), over numbers and slices: each makes a fresh board of its own where it needs one.
 // A function that can refuse returns the number of the refusal, the lowest where several apply, and then leaves all lent memory as it was;
 // else it returns 0, and what is due stands in front of the lent output. A number that it counts is the first of the lent numbers.
 #![tactic(auto)]
@@ -27,16 +27,14 @@ use stream::run_out;
 use words::copy_words;
 
 // The CRC of bytes from a start.
-#[unsafe(no_mangle)]
-pub extern "C" fn ftm_crc(start: u8, bytes: &[u8]) -> u8
+pub fn ftm_crc(start: u8, bytes: &[u8]) -> u8
     ensures { result ≡ crc start bytes.now }
 {
     crc8(start, bytes)
 }
 
 // Reads the first command of words: a refusal's number, 0 where it is read.
-#[unsafe(no_mangle)]
-pub extern "C" fn ftm_read_command(words: &[u16]) -> u8
+pub fn ftm_read_command(words: &[u16]) -> u8
     ensures { result ≡ command_given words.now }
 {
     match read_command(words) {
@@ -46,8 +44,7 @@ pub extern "C" fn ftm_read_command(words: &[u16]) -> u8
 }
 
 // On a fresh board: how many of `count` commands of the words, one after another, are accepted.
-#[unsafe(no_mangle)]
-pub extern "C" fn ftm_commands(words: &[u16], count: u64, accepted: &mut [u64]) -> u8
+pub fn ftm_commands(words: &[u16], count: u64, accepted: &mut [u64]) -> u8
     ensures { CountsAccepted count words.now accepted.old result accepted.new }
 {
     let refusal = no_room(1, accepted.len());
@@ -61,8 +58,7 @@ pub extern "C" fn ftm_commands(words: &[u16], count: u64, accepted: &mut [u64]) 
 
 // On a fresh board: obeys the first command of the words, then hands in the items, 29 bytes each, a crate's number and a reply of 28
 // bytes; each lends `frame` for the next frame. How many replies were good. (On the crates alone.)
-#[unsafe(no_mangle)]
-pub extern "C" fn ftm_pass(words: &[u16], items: &[u8], frame: &mut [u8], good: &mut [u64]) -> u8
+pub fn ftm_pass(words: &[u16], items: &[u8], frame: &mut [u8], good: &mut [u64]) -> u8
     ensures { CountsPass words.now items.now frame.old good.old result frame.new good.new }
 {
     let done = obey_series(words, 1);
@@ -79,8 +75,7 @@ pub extern "C" fn ftm_pass(words: &[u16], items: &[u8], frame: &mut [u8], good: 
 }
 
 // The same as `ftm_pass`, each item by a call on the whole board.
-#[unsafe(no_mangle)]
-pub extern "C" fn ftm_replies(words: &[u16], items: &[u8], frame: &mut [u8], good: &mut [u64]) -> u8
+pub fn ftm_replies(words: &[u16], items: &[u8], frame: &mut [u8], good: &mut [u64]) -> u8
     ensures { CountsPass words.now items.now frame.old good.old result frame.new good.new }
 {
     let done = obey_series(words, 1);
@@ -95,13 +90,7 @@ pub extern "C" fn ftm_replies(words: &[u16], items: &[u8], frame: &mut [u8], goo
 
 // On a fresh board: obeys the first command of the words, then a time-up on each of the crates in turn, with `frame` lent to each for the
 // next frame. How many were served.
-#[unsafe(no_mangle)]
-pub extern "C" fn ftm_time_ups(
-    words: &[u16],
-    crates: &[u8],
-    frame: &mut [u8],
-    served: &mut [u64],
-) -> u8
+pub fn ftm_time_ups(words: &[u16], crates: &[u8], frame: &mut [u8], served: &mut [u64]) -> u8
     ensures { CountsTimeUps words.now crates.now frame.old served.old result frame.new served.new }
 {
     let done = obey_series(words, 1);
@@ -116,13 +105,7 @@ pub extern "C" fn ftm_time_ups(
 
 // On a fresh board: obeys the first command of the words, lets its pass run out on silent boards, begins a rate pass, then hands in the
 // items as `ftm_replies` does. How many replies were good.
-#[unsafe(no_mangle)]
-pub extern "C" fn ftm_rate_pass(
-    words: &[u16],
-    items: &[u8],
-    frame: &mut [u8],
-    good: &mut [u64],
-) -> u8
+pub fn ftm_rate_pass(words: &[u16], items: &[u8], frame: &mut [u8], good: &mut [u64]) -> u8
     ensures { CountsRatePass words.now items.now frame.old good.old result frame.new good.new }
 {
     let done = obey_series(words, 1);
@@ -139,8 +122,7 @@ pub extern "C" fn ftm_rate_pass(
 
 // On a fresh board: obeys two commands of the words, then makes the clock steps, of so many ticks each. The timestamp after each, and
 // then the on-time.
-#[unsafe(no_mangle)]
-pub extern "C" fn ftm_clock_steps(words: &[u16], ticks: &[u32], out: &mut [u64]) -> u8
+pub fn ftm_clock_steps(words: &[u16], ticks: &[u32], out: &mut [u64]) -> u8
     ensures { MakesSteps words.now ticks.now out.old result out.new }
 {
     let done = obey_series(words, 2);
@@ -193,13 +175,7 @@ fn given_triggers(first: Board, count: usize, out: &mut [u8]) -> u64
 
 // On a fresh board: obeys two commands of the words, then gives `count` triggers of n = 4, or as many as are not refused, whose packets go
 // into the lent bytes one after another. How many were given.
-#[unsafe(no_mangle)]
-pub extern "C" fn ftm_triggers(
-    words: &[u16],
-    count: usize,
-    packets: &mut [u8],
-    number: &mut [u64],
-) -> u8
+pub fn ftm_triggers(words: &[u16], count: usize, packets: &mut [u8], number: &mut [u64]) -> u8
     ensures { GivesTriggers words.now count packets.old number.old result packets.new number.new }
 {
     let done = obey_series(words, 2);
@@ -237,8 +213,7 @@ fn good_packets(bytes: &[u8]) -> u64
 }
 
 // How many of the packets, seven bytes each, are good.
-#[unsafe(no_mangle)]
-pub extern "C" fn ftm_packets(bytes: &[u8], good: &mut [u64]) -> u8
+pub fn ftm_packets(bytes: &[u8], good: &mut [u64]) -> u8
     ensures { CountsPackets bytes.now good.old result good.new }
 {
     let refusal = packets_refusal(bytes.len(), good.len());
@@ -250,8 +225,7 @@ pub extern "C" fn ftm_packets(bytes: &[u8], good: &mut [u64]) -> u8
 }
 
 // Writes the static block of a board of ID 0 with these words, and reads it back: a refusal's number, 0 where it is written.
-#[unsafe(no_mangle)]
-pub extern "C" fn ftm_static(block: &[u16], out: &mut [u16]) -> u8
+pub fn ftm_static(block: &[u16], out: &mut [u16]) -> u8
     ensures { StaticRound block.now out.old result out.new }
 {
     if block.len() != 436 {

@@ -1,24 +1,38 @@
 // 01's listing: for each command on standard input its ordinal, a space and its answer, one line each.
 #![tactic(auto)]
 
-use libc::{STDIN_FILENO, STDOUT_FILENO};
+ghost use Rattle.std.specs.Prelude.{◌≤◌, length, IfOk};
+
+use std::io;
+use std::io::Read;
 use stream::{input_buffer, list_answers};
 
-fn line(ordinal: usize, answer: u8) {
-    io::print_decimal(STDOUT_FILENO, ordinal as u64);
-    io::write_all(STDOUT_FILENO, b" ");
-    io::print_decimal(STDOUT_FILENO, answer as u64);
-    io::write_all(STDOUT_FILENO, b"\n");
+fn line(rt: &impl Print, ordinal: usize, answer: u8) -> io::Result<()> {
+    println!(rt; "{ordinal} {answer}")
 }
 
-fn main() {
+// Reads until the bytes are full or the input ends: how many bytes of it stand at their start.
+fn read_full(input: &mut impl Read, bytes: &mut [u8]) -> io::Result<usize>
+    ensures { IfOk result (λ n. n ≤ length bytes.new) }
+{
+    let mut done = 0;
+    while done < bytes.len() {
+        let n = input.read(&mut bytes[done..])?;
+        if n == 0 {
+            break;
+        }
+        done += n;
+    }
+    Ok(done)
+}
+
+fn main(rt: HostRuntime) -> io::Result<()> {
     let mut bytes = input_buffer();
-    let n = io::read_full(STDIN_FILENO, &mut bytes);
+    let n = read_full(&mut rt.reader(), &mut bytes)?;
     let listing = list_answers(&bytes[..n]);
     let answers = listing.answers;
-    let mut i = 0;
-    while i < listing.count {
-        line(listing.first + i, answers[i]);
-        i += 1;
+    for i in 0..listing.count {
+        line(&rt, listing.first + i, answers[i])?;
     }
+    Ok(())
 }

@@ -72,7 +72,8 @@ module _ (x : ℕ) (f : Fields) (out : List ℕ) (r : Bool) (e : r ≡ in_range 
     -- after its seven stores
     pub written : x < 2 ^ 32 → (b : List ℕ) → b ≡ packet_bytes x f → 7 ≤ length out
         → After (Length 7)
-        (set (set (set (set (set (set (set out 0 (get_or b 0 0)) 1 (get_or b 1 0)) 2 (get_or b 2 0)) 3 (get_or b 3 0)) 4 (get_or b 4 0)) 5 (get_or b 5 0)) 6 (get_or b 6 0))
+        (set (set (set (set (set (set (set out 0 (get_or b 0 0)) 1 (get_or b 1 0)) 2 (get_or b 2 0)) 3 (get_or b 3 0))
+        4 (get_or b 4 0)) 5 (get_or b 5 0)) 6 (get_or b 6 0))
     unfolding first_six
     written fits b eb s =
         record {

@@ -3,8 +3,9 @@
 
 use board::{Board, power_up};
 use exchange::serve_line;
-use libc::{STDIN_FILENO, STDOUT_FILENO};
 use script::{Reading, line_begun, read_on};
+use std::io;
+use std::io::Read;
 
 // The board, and what is read of the next line.
 #[derive(Clone, Copy)]
@@ -14,47 +15,51 @@ struct ReplayState {
 }
 
 // Prints the front of a text.
-fn print(text: [u8; 2560], length: usize) {
+fn print(rt: &impl Print, text: [u8; 2560], length: usize) -> io::Result<()> {
     if length <= 2560 {
-        io::write_all(STDOUT_FILENO, &text[..length]);
+        rt.write_all(&text[..length])?;
     }
+    Ok(())
 }
 
 // Serves a line that is read, prints what it gets, and gives the board after it.
-fn serve(board: Board, reading: Reading, bytes: &[u8]) -> Board {
+fn serve(rt: &impl Print, board: Board, reading: Reading, bytes: &[u8]) -> io::Result<Board> {
     let mut text = [0u8; 2560];
     let served = serve_line(board, reading, bytes, &mut text);
     let next = served.board;
-    print(text, served.length);
-    next
+    print(rt, text, served.length)?;
+    Ok(next)
 }
 
 // Serves each line that ends in a part of the input.
-fn serve_part(state: ReplayState, part: &[u8], bytes: &mut [u8; 2048]) -> ReplayState {
+fn serve_part(
+    rt: &impl Print,
+    state: ReplayState,
+    part: &[u8],
+    bytes: &mut [u8; 2048],
+) -> io::Result<ReplayState> {
     let mut board = state.board;
     let mut reading = state.reading;
-    let mut i = 0;
-    while i < part.len() {
-        let character = part[i];
-        if character == b'\n' {
-            board = serve(board, reading, bytes);
+    for character in part {
+        if *character == b'\n' {
+            board = serve(rt, board, reading, bytes)?;
             reading = line_begun();
         } else {
-            reading = read_on(reading, character, bytes);
+            reading = read_on(reading, *character, bytes);
         }
-        i += 1;
     }
-    ReplayState { board, reading }
+    Ok(ReplayState { board, reading })
 }
 
 // The last line may end with the input.
-fn serve_last(state: ReplayState, bytes: [u8; 2048]) {
+fn serve_last(rt: &impl Print, state: ReplayState, bytes: [u8; 2048]) -> io::Result<()> {
     let board = state.board;
     let reading = state.reading;
-    serve(board, reading, &bytes);
+    serve(rt, board, reading, &bytes)?;
+    Ok(())
 }
 
-fn main() {
+fn main(rt: HostRuntime) -> io::Result<()> {
     let up = power_up(0, 0);
     let fresh = up.board;
     let mut state = ReplayState {
@@ -62,17 +67,15 @@ fn main() {
         reading: line_begun(),
     };
     let mut bytes = [0u8; 2048];
-    let mut input = io::buffer();
+    let mut input = [0u8; 4096];
+    let mut reader = rt.reader();
     // Input ends long before so many parts of it are read.
-    let mut left: u64 = 18446744073709551615;
-    while 0 < left {
-        let got = libc::read(STDIN_FILENO, &mut input);
-        let n = io::count(got, &input);
+    for _ in 0..u64::MAX {
+        let n = reader.read(&mut input)?;
         if n == 0 {
             break;
         }
-        state = serve_part(state, &input[..n], &mut bytes);
-        left -= 1;
+        state = serve_part(&rt, state, &input[..n], &mut bytes)?;
     }
-    serve_last(state, bytes);
+    serve_last(&rt, state, bytes)
 }

@@ -24,7 +24,8 @@ module _ (r : Run) (f : Fields) (out : List ℕ) where
   pub trigger-exactly :
       let due = packet_bytes (trigger_number r) f in
       Exactly (writing_rules (trigger_rules r f) due out) (length due) (trigger_answer r f out)
-  trigger-exactly = writing-exactly (writing_rules (trigger_rules r f) (packet_bytes (trigger_number r) f) out) (packet_bytes (trigger_number r) f) out trigger-rises
+  trigger-exactly =
+      writing-exactly (writing_rules (trigger_rules r f) (packet_bytes (trigger_number r) f) out) (packet_bytes (trigger_number r) f) out trigger-rises
 
   -- 01, Numbers given when we say no: "A refusal returns its number, the unchanged state where the call has one"; and the lent bytes stay
   pub nothing-lost : (t : Triggered) (after : List ℕ) → Triggers r f out t after → (n p : ℕ) → written_meaning t.answer ≡ refused n p

@@ -9,12 +9,11 @@ use Rattle.blocks.proofs.put_dynamic.Goals as goal
 
 pub returns : goal.returns
 returns c =
-    
     let a = c.args in
     let p = c.copy_words in
     let q = c.copy_words-2 in
     let n : length a.front ≡ 7 = search rules in
     let m : length a.rates ≡ 480 = search rules in
-    let room : 7 + 480 ≤ length p.new.1.0 = omega arith in
-    both-output a.body.now a.front a.rates p.new.1.0 q.new.1.0 7 480 n m c.requires p.ensures
-    (copied-part a.rates p.new.1.0 q.new.1.0 7 480 m room q.ensures)
+    let room : 7 + 480 ≤ length p.new.dst = omega arith in
+    both-output a.body.now a.front a.rates p.new.dst q.new.dst 7 480 n m c.requires p.ensures
+    (copied-part a.rates p.new.dst q.new.dst 7 480 m room q.ensures)

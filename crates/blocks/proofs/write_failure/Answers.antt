@@ -17,7 +17,11 @@ slice_bounds-put_failure-count c =
     omega arith
 
 pub slice_bounds-put_failure-start : goal.slice_bounds-put_failure-start
-slice_bounds-put_failure-start c = ?
+slice_bounds-put_failure-start c =
+    let put = c.put_header in
+    let a = c.args in
+    let room = header-room a.h 40 a.out.now put.result _ put.ensures _ c.in-Length.is in
+    omega arith
 
 pub put_failure-requires : goal.put_failure-requires
 put_failure-requires c =

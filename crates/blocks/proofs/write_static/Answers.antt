@@ -8,15 +8,15 @@ use Rattle.bounds.proofs.Lent.{above-8, checked-clear}
 use Rattle.blocks.proofs.Laws.{header-room, block-own, block_refused, block-wrote}
 use borrow.Author.Rules.{rules}
 use native.Mathlib.Omega.{arith}
+use Rattle.blocks.proofs.write_static.Goals.{In-Length}
 use Rattle.blocks.proofs.write_static.Goals as goal
 
--- `blocks::write_static` meets its contract. Assumes nothing.
 -- where the check of bounds and the header's writer did not refuse, there is room
-room : (c : tie.After-enum-told2) → 447 ≤ length c.before.before.before.before.before.before.before.before.before.before.before.args.out.now
+room : (c : In-Length) → 447 ≤ length c.args.out.now
 room c =
-    let put = c.before.before.before.before.put-header in
-    let a = c.before.before.before.before.before.before.before.before.before.before.before.args in
-    omega (arith, header-room a.h _ a.out.now put.result _ put.ensures _ c.enum-told2.given.1)
+    let put = c.put_header in
+    let a = c.args in
+    omega (arith, header-room a.h _ a.out.now put.result _ put.ensures _ c.in-Length.is)
 
 pub returns-in-Above : goal.returns-in-Above
 returns-in-Above c =
@@ -26,23 +26,23 @@ returns-in-Above c =
     block-own _ 436 _ _ _ (AboveBound _) (above-8 bound_of 436 a.block n checked.result checked.ensures _ c.in-Above.is)
 
 pub slice_bounds-put_static-count : goal.slice_bounds-put_static-count
-slice_bounds-put_static-count c = omega (arith, room c)
+slice_bounds-put_static-count c = omega (arith, room (goal.at.slice_bounds-put_static-count c).In-Length)
 
 pub slice_bounds-put_static-start : goal.slice_bounds-put_static-start
-slice_bounds-put_static-start c = ?
+slice_bounds-put_static-start c = omega (arith, room (goal.at.slice_bounds-put_static-start c).In-Length)
 
 pub put_static-requires : goal.put_static-requires
-put_static-requires c = omega (arith, room c)
+put_static-requires c = omega (arith, room (goal.at.put_static-requires c).In-Length)
 
 pub returns-in-Length : goal.returns-in-Length
 returns-in-Length c =
     let put = c.put_header in
     let checked = c.check_bounds in
     let a = c.args in
-    let n : length a.block ≡ 436 = search (rules, c.well-formed) in
+    let n : length a.block ≡ 436 = search (rules, c.well_formed) in
     let within = checked-clear bound_of 436 a.block n checked.result checked.ensures c.in-Within.is in
     block-wrote _ within a.h a.block a.out.now 436 n put.result _ put.ensures _ c.in-Length.is
-    (search (rules, c.well-formed)) _ c.put_static.ensures
+    (search (rules, c.well_formed)) _ c.put_static.ensures
 
 pub returns-in-Refused : goal.returns-in-Refused
 returns-in-Refused c =

@@ -1,10 +1,8 @@
 -- `command_reader::read_command` meets its contract. Assumes nothing.
 use native.Mathlib.Omega.{arith}
 use Rattle.command_reader.proofs.Reading.{found_as, read-1, read-2, read-unnamed}
-use borrow.Author.Rules.{rules}
 use Rattle.command_reader.proofs.read_command.Goals as goal
 
--- `command_reader::read_command` meets its contract. Assumes nothing.
 pub returns-then-words-lt5 : goal.returns-then-words-lt5
 returns-then-words-lt5 c = read-1 _ (omega arith)
 
@@ -18,5 +16,5 @@ returns-in-Refused c =
     record {
       five = omega arith;
       first_word = omega arith;
-      c = found_as words _ c.count_in.ensures _ _ c.listed_as-found.ensures c.in-Refused.is;
+      named = found_as words _ c.count_in.ensures _ _ c.listed_as-found.ensures c.in-Refused.is;
     }

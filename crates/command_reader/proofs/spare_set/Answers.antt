@@ -1,7 +1,6 @@
 -- `command_reader::spare_set` meets its contract. Assumes nothing.
 use borrow.Author.Tests.{eq-eqb, ne_eqb}
 use Rattle.command_reader.specs.Reading.{spare_set}
-use borrow.Author.Rules.{rules}
 use Rattle.command_reader.proofs.spare_set.Goals as goal
 
 pub returns-then-word_at-ne0 : goal.returns-then-word_at-ne0

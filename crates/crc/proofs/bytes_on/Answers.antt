@@ -1,5 +1,4 @@
 -- `crc::bytes_on` meets its contract. Assumes nothing.
-use borrow.Author.Rules.{rules}
 use native.Mathlib.Omega.{arith}
 use Rattle.crc.proofs.Steps.{on_step}
 use Rattle.crc.proofs.bytes_on.Goals as goal

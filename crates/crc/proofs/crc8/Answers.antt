@@ -1,11 +1,6 @@
 -- `crc::crc8` meets its contract. The word stands for the bytes before i, from the start. Assumes nothing.
-use Prim.Native.Nat.{◌≤◌, ◌-◌}
-use mathlib.Core.Path.{◌≡◌, ◌∙◌}
-use lib.ListN.{length, drop}
-use Rattle.crc.specs.Crc.{crc}
-use Rattle.crc.specs.CodeShape.{crc_word}
-use Rattle.crc.proofs.Steps.{none, first_on, four-on}
-use borrow.Author.Rules.{rules}
+use mathlib.Core.Path.{◌∙◌}
+use Rattle.crc.proofs.Steps.{first_on, four-on}
 use native.Mathlib.Omega.{arith}
 use Rattle.crc.proofs.crc8.Goals as goal
 

@@ -1,6 +1,5 @@
 -- `crc::crc_of_six` meets its contract. Assumes nothing.
 use Rattle.crc.proofs.Steps.{six-from}
-use borrow.Author.Rules.{rules}
 use native.Mathlib.Omega.{arith}
 use Rattle.crc.proofs.crc_of_six.Goals as goal
 

@@ -2,7 +2,6 @@
 use Prim.Native.Nat.{ℕ, ◌%◌}
 use mathlib.Core.Path.{ap, ◌∙◌}
 use native.Mathlib.Omega.{arith}
-use borrow.Author.Rules.{rules}
 use lib.Bits.{bit_xor}
 use Rattle.crc.proofs.Steps.{folded_twice, word-crc}
 use Rattle.crc.proofs.crc_word.Goals as goal

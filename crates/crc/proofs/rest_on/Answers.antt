@@ -1,7 +1,6 @@
 -- `crc::rest_on` meets its contract. Assumes nothing.
-use borrow.Author.Rules.{rules}
 use native.Mathlib.Omega.{arith}
-use Rattle.crc.proofs.Steps.{rest-none, rest-one, rest-two, rest-three}
+use Rattle.crc.proofs.Steps.{rest-one, rest-two, rest-three}
 use Rattle.crc.proofs.rest_on.Goals as goal
 
 pub returns-in-1 : goal.returns-in-1

@@ -1,6 +1,5 @@
 -- `crc::word_of` meets its contract. Assumes nothing.
 use Rattle.crc.proofs.Steps.{word_of}
-use borrow.Author.Rules.{rules}
 use native.Mathlib.Omega.{arith}
 use Rattle.crc.proofs.word_of.Goals as goal
 

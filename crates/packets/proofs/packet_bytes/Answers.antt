@@ -1,7 +1,6 @@
 -- `packets::packet_bytes` meets its contract. Assumes nothing.
 use Rattle.packets.proofs.Laws.{packet-is}
 use native.Mathlib.Omega.{arith}
-use borrow.Author.Rules.{rules}
 use Rattle.packets.proofs.packet_bytes.Goals as goal
 
 pub returns : goal.returns

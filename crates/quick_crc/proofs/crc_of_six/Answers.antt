@@ -1,6 +1,5 @@
 -- `quick_crc::crc_of_six` meets its contract. Assumes nothing.
 use Rattle.quick_crc.proofs.Six.{six-from}
-use borrow.Author.Rules.{rules}
 use native.Mathlib.Omega.{arith}
 use Rattle.quick_crc.proofs.crc_of_six.Goals as goal
 

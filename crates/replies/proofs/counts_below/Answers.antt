@@ -1,10 +1,9 @@
 -- `replies::counts_below` meets its contract: the counts looked at are below, so those left decide. Assumes nothing.
-use Prim.Native.Nat.{◌-◌, ◌<◌, ◌≤◌}
-use mathlib.Core.Path.{◌≡◌, refl, sym, ◌∙◌}
-use borrow.Author.Rules.{rules}
+use Prim.Native.Nat.{◌<◌}
+use mathlib.Core.Path.{◌∙◌}
 use native.Mathlib.Omega.{arith}
-use Rattle.replies.specs.Replies.{count_in, count_limit, counts_below, rate_data}
-use Rattle.replies.proofs.Counts.{count-below, count-above}
+use Rattle.replies.specs.Replies.{count_in, count_limit}
+use Rattle.replies.proofs.Counts.{count-below}
 use Rattle.replies.proofs.counts_below.Goals as goal
 
 pub loop-patch-preserved : goal.loop-patch-preserved

@@ -1,9 +1,6 @@
-use Prim.Native.Nat.{◌-◌, ◌<◌, ◌≤◌}
-use mathlib.Core.Path.{◌≡◌, refl, sym, ◌∙◌}
-use borrow.Author.Rules.{rules}
-use native.Mathlib.Omega.{arith}
-use Rattle.replies.specs.Replies.{count_in, count_limit, counts_below, rate_data}
-use Rattle.replies.proofs.Counts.{count-below, count-above}
+use Prim.Native.Nat.{◌-◌}
+use mathlib.Core.Path.{◌≡◌}
+use Rattle.replies.specs.Replies.{counts_below, rate_data}
 use Rattle.replies.proofs.counts_below.Given as goal
 
 -- `replies::counts_below` meets its contract: the counts looked at are below, so those left decide. Assumes nothing.

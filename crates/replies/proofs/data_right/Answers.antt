@@ -1,7 +1,6 @@
 -- `replies::data_right` meets its contract, by a law for each return. Assumes nothing.
 use mathlib.Core.Path.{◌∙◌}
 use Rattle.replies.proofs.Laws.{ping-bad, ping-zeros, rates-data, others}
-use borrow.Author.Rules.{rules}
 use native.Mathlib.Omega.{arith}
 use Rattle.replies.proofs.data_right.Goals as goal
 

@@ -5,7 +5,6 @@ use mathlib.Core.Path.{◌∙◌, sym, ap}
 use lib.Seq.{take_all}
 use Rattle.replies.specs.Replies.{data_right}
 use lib.ListN.{length-take}
-use borrow.Author.Rules.{rules}
 use native.Mathlib.Omega.{arith}
 use Rattle.replies.proofs.is_good.Goals as goal
 
@@ -43,7 +42,7 @@ pub returns : goal.returns
 returns c =
     let a = c.args in
     let r = a.reply.now in
-    let byte = c.shared_slice_known-5-1.given 27 in
+    let byte = c.type_inv.reply 27 in
     by-data _ _ (omega arith) (omega arith) (omega arith) (omega arith) (omega arith)
     (zero_right r (omega arith) (omega (arith, byte)) (sym c.crc8.ensures ∙ c.if-crc8-ne0.false))
     _

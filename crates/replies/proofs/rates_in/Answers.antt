@@ -2,14 +2,11 @@
 use mathlib.Core.Path.{ap, ◌∙◌}
 use Rattle.numbers.specs.Numbers.{digits}
 use Rattle.replies.proofs.Counts.{as-word, rates-of}
-use borrow.Author.Rules.{rules}
 use native.Mathlib.Omega.{arith}
 use Rattle.replies.proofs.rates_in.Goals as goal
 
 pub returns : goal.returns
 returns c =
-    
-    
     rates-of _ _ _ _ _ _
     (c.words32-a.ensures ∙ ap (digits 65536 2) c.count_in.ensures)
     (c.words32-b.ensures ∙ ap (digits 65536 2) c.count_in-2.ensures)

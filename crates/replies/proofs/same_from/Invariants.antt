@@ -1,11 +1,7 @@
 use Prim.Native.Nat.{◌-◌}
-use mathlib.Core.Path.{◌≡◌, refl, sym, ◌∙◌}
+use mathlib.Core.Path.{◌≡◌}
 use mathlib.Core.Bool.{◌&&◌}
-use mathlib.Core.Logic.{⊎_elim}
-use borrow.Author.Rules.{rules}
-use native.Mathlib.Omega.{arith}
 use Rattle.replies.specs.Replies.{same_from}
-use Rattle.replies.proofs.Same.{and-true, same_more, same_not}
 use Rattle.replies.proofs.same_from.Given as goal
 
 -- `replies::same_from` meets its contract: what was compared and what is left to compare decide together. Assumes nothing.

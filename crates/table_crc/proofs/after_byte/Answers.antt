@@ -1,6 +1,5 @@
 -- `table_crc::after_byte` meets its contract: eight steps are four and four. Assumes nothing.
 use mathlib.Core.Path.{ap, ◌∙◌}
-use borrow.Author.Rules.{rules}
 use Rattle.crc.specs.Crc.{crc_bits, crc_byte}
 use Rattle.table_crc.proofs.after_byte.Goals as goal
 

@@ -1,6 +1,5 @@
 -- `table_crc::after_four_bits` meets its contract. Assumes nothing.
 use native.Mathlib.Omega.{arith}
-use borrow.Author.Rules.{rules}
 use Rattle.table_crc.proofs.Table.{lookup}
 use Rattle.table_crc.proofs.after_four_bits.Goals as goal
 

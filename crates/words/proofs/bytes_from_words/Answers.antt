@@ -1,12 +1,10 @@
 -- `words::bytes_from_words` meets its contract. Assumes nothing.
-use Prim.Native.Nat.{◌≤◌, ◌-◌, ◌*◌}
 use mathlib.Core.Path.{◌≡◌, ◌∙◌}
-use mathlib.Core.List.{[], ◌++◌}
+use mathlib.Core.List.{[]}
 use native.Mathlib.Numerals.{add-one}
-use lib.ListN.{length, take, drop, length-set}
+use lib.ListN.{length, length-set}
 use lib.Seq.{take-length}
 use Rattle.refusals.proofs.Writing.{wrote, wrote-short}
-use Rattle.words.specs.Words.{bytes_of}
 use Rattle.words.proofs.Bytes.{length-bytes, bytes-more}
 use borrow.Author.Rules.{rules}
 use native.Mathlib.Omega.{arith}

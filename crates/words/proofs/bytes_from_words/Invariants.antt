@@ -1,14 +1,8 @@
 use Prim.Native.Nat.{◌≤◌, ◌-◌, ◌*◌}
-use mathlib.Core.Path.{◌≡◌, ◌∙◌}
-use mathlib.Core.List.{[], ◌++◌}
-use native.Mathlib.Numerals.{add-one}
-use lib.ListN.{length, take, drop, length-set}
-use lib.Seq.{take-length}
-use Rattle.refusals.proofs.Writing.{wrote, wrote-short}
+use mathlib.Core.Path.{◌≡◌}
+use mathlib.Core.List.{◌++◌}
+use lib.ListN.{length, take, drop}
 use Rattle.words.specs.Words.{bytes_of}
-use Rattle.words.proofs.Bytes.{length-bytes, bytes-more}
-use borrow.Author.Rules.{rules}
-use native.Mathlib.Omega.{arith}
 use Rattle.words.proofs.bytes_from_words.Given as goal
 
 -- `words::bytes_from_words` meets its contract. Assumes nothing.

@@ -1,9 +1,7 @@
 -- `words::copy_words` meets its contract. Assumes nothing.
-use Prim.Native.Nat.{◌≤◌, ◌-◌}
-use mathlib.Core.Path.{◌≡◌, refl}
-use mathlib.Core.List.{◌++◌}
+use mathlib.Core.Path.{◌≡◌}
 use native.Mathlib.Numerals.{add-one}
-use lib.ListN.{length, drop, take, length-set, drop_of_length-le}
+use lib.ListN.{length, length-set, drop_of_length-le}
 use lib.Seq.{take-length, take_all, drop-length}
 use Rattle.words.specs.Words.{copied}
 use Rattle.words.proofs.Laws.{copy_more}

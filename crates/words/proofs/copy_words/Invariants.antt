@@ -1,13 +1,7 @@
 use Prim.Native.Nat.{◌≤◌, ◌-◌}
-use mathlib.Core.Path.{◌≡◌, refl}
+use mathlib.Core.Path.{◌≡◌}
 use mathlib.Core.List.{◌++◌}
-use native.Mathlib.Numerals.{add-one}
-use lib.ListN.{length, drop, take, length-set, drop_of_length-le}
-use lib.Seq.{take-length, take_all, drop-length}
-use Rattle.words.specs.Words.{copied}
-use Rattle.words.proofs.Laws.{copy_more}
-use borrow.Author.Rules.{rules}
-use native.Mathlib.Omega.{arith}
+use lib.ListN.{length, drop, take}
 use Rattle.words.proofs.copy_words.Given as goal
 
 -- `words::copy_words` meets its contract. Assumes nothing.

@@ -1,15 +1,8 @@
-use Prim.Native.Nat.{◌≤◌, ◌<◌, ◌-◌, ◌/◌}
-use mathlib.Core.Path.{◌≡◌, ◌∙◌}
-use mathlib.Core.List.{[], ◌++◌}
-use native.Mathlib.Numerals.{add-one}
-use lib.ListN.{length, take, drop, length-set}
-use lib.Seq.{take_all}
-use Rattle.refusals.proofs.Writing.{wrote, wrote-short}
+use Prim.Native.Nat.{◌≤◌, ◌-◌}
+use mathlib.Core.Path.{◌≡◌}
+use mathlib.Core.List.{◌++◌}
+use lib.ListN.{length, take, drop}
 use Rattle.words.specs.Words.{words_in}
-use Rattle.words.proofs.Laws.{copy_more}
-use Rattle.words.proofs.Bytes.{length-words, word_in}
-use borrow.Author.Rules.{rules}
-use native.Mathlib.Omega.{arith}
 use Rattle.words.proofs.words_from_bytes.Given as goal
 
 -- `words::words_from_bytes` meets its contract. Assumes nothing.

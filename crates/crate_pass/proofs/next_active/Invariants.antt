@@ -1,0 +1,15 @@
+use Prim.Native.Nat.{◌-◌}
+use mathlib.Core.Path.{◌≡◌, refl, sym, ◌∙◌}
+use native.Mathlib.Omega.{arith}
+use borrow.Author.Rules.{rules}
+use Rattle.crate_pass.specs.declared.PassKind.TheVariants.{Reprogramming}
+use Rattle.crate_pass.specs.Crate.{next_board}
+use Rattle.crate_pass.proofs.Next.{next_here, next-skip, next-none}
+use Rattle.crate_pass.proofs.next_active.Given as goal
+
+-- `crate_pass::next_active` meets its contract. Assumes nothing.
+abbrev pub invariant-loop-b : goal.invariant-loop-b
+invariant-loop-b l = next_board Reprogramming l.word l.b ≡ next_board Reprogramming l.word l.from
+
+abbrev pub decreases-loop-b : goal.decreases-loop-b
+decreases-loop-b l = 10 - l.b
