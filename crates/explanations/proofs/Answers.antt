@@ -1,6 +1,6 @@
 -- What an answer says of the rows of its table, and which refusal its explanation names.
 -- Assumes nothing.
-use Prim.Native.Nat.{ℕ, ◌-◌}
+use Prim.Native.Nat.{ℕ}
 use mathlib.Core.Path.{◌≡◌, refl, sym, ap, ◌∙◌}
 use mathlib.Core.Bool.{true, false, false≢true}
 use mathlib.Core.List.{List}
@@ -60,6 +60,7 @@ row_number w p n q (inr (inr (inr (inr (inr (inr (inl (t, e, z)))))))) = rw (sym
 row_number w p n q (inr (inr (inr (inr (inr (inr (inr (inl (t, e, z))))))))) = rw (sym e) refl
 row_number w p n q (inr (inr (inr (inr (inr (inr (inr (inr (inl (t, e, z)))))))))) = rw (sym e) refl
 row_number w p n q (inr (inr (inr (inr (inr (inr (inr (inr (inr (inl (t, e, z))))))))))) = rw (sym e) refl
+row_number w p n q (inr (inr (inr (inr (inr (inr (inr (inr (inr (inr h)))))))))) = elim h [ ]
 
 -- "the explanation names the refusal that the board itself gives"
 pub same_number : (w : List ℕ) (p : Present) → explained_number (explained w p) ≡ answer_number (answered w p)

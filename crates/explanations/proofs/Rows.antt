@@ -30,6 +30,7 @@ applied n q [] = false
 applied n q (r ∷ rs) = (eqb r.number n && (eqb r.place q && r.applies)) || applied n q rs
 
 pub applies-applied : (rs : List Rule) (n q : ℕ) → Applies rs n q → applied n q rs ≡ true
+applies-applied [] n q h = elim h [ ]
 applies-applied (r ∷ rs) n q (inl (t, en, eq)) = rw (eq-eqb _ _ en, eq-eqb _ _ eq, t) refl
 applies-applied (r ∷ rs) n q (inr h) = rw (applies-applied rs n q h) (or-true (eqb r.number n && (eqb r.place q && r.applies)))
 

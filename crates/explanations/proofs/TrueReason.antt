@@ -53,6 +53,7 @@ module _ (w : List ℕ) (p : Present) (n q : ℕ) (d : answered w p ≡ refused 
   row-true (inr (inr (inr (inr (inr (inr (inr (inr (inl (t, e, z)))))))))) = with_number 9 e (λ f. refl)
   row-true (inr (inr (inr (inr (inr (inr (inr (inr (inr (inl (t, e, z))))))))))) =
       with_number 10 e (λ f. let s = idle-not-fresh (command_in w) p t in (refl, s.0, s.1))
+  row-true (inr (inr (inr (inr (inr (inr (inr (inr (inr (inr h)))))))))) = elim h [ ]
 
 -- 8 has the place that the board gives
 abbrev place_said : Explained → ℕ
