@@ -2,7 +2,6 @@
 use Rattle.call_refusals.proofs.Numbers.{lower-second, lower-first, lower-below, lower-above}
 use Rattle.call_refusals.proofs.lower_of.Goals as goal
 
--- `call_refusals::lower_of` meets its contract. Assumes nothing.
 pub returns-then-a-eq0 : goal.returns-then-a-eq0
 returns-then-a-eq0 c = lower-second _ _ c.if-a-eq0.true
 

@@ -3,7 +3,6 @@ use borrow.Author.Tests.{lt-ltb, le-ltb}
 use Rattle.call_refusals.specs.CallRefusals.{no_room}
 use Rattle.call_refusals.proofs.no_room.Goals as goal
 
--- `call_refusals::no_room` meets its contract. Assumes nothing.
 pub returns-then-length-due : goal.returns-then-length-due
 unfolding no_room
 returns-then-length-due c = rw (lt-ltb _ _ c.if-length-due.true)
