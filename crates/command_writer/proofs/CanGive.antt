@@ -31,6 +31,7 @@ both true b e = (refl, e)
 both false b e = absurd (let z : ◌≡◌ {A = ℕ} 0 1 = cc in omega arith)
 
 one-of-rows : (numbers : List ℕ) (rs : List Rule) (n p : ℕ) → all_of numbers rs ≡ true → Applies rs n p → one_of numbers n ≡ true
+one-of-rows numbers [] n p e h = elim h [ ]
 one-of-rows numbers (r ∷ rs) n p e (inl h) = ap (one_of numbers) (sym h.1) ∙ (both (one_of numbers r.number) (all_of numbers rs) e).0
 one-of-rows numbers (r ∷ rs) n p e (inr h) = one-of-rows numbers rs n p (both (one_of numbers r.number) (all_of numbers rs) e).1 h
 

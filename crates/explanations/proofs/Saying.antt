@@ -77,7 +77,8 @@ says-unlisted reason x e q m n =
 -- ---- a refusal, once the code knows which it is
 
 module _ (w : List ℕ) (p : Present) where
-  pub because : (r s : Refusal) (e : Explanation) → r ≡ s → Explains (explained_by w p (refusal_meaning s)) e → Explains (explained_by w p (refusal_meaning r)) e
+  pub because : (r s : Refusal) (e : Explanation) → r ≡ s → Explains (explained_by w p (refusal_meaning s)) e
+      → Explains (explained_by w p (refusal_meaning r)) e
   because r s e q h = subst (λ (t : Refusal). Explains (explained_by w p (refusal_meaning t)) e) (sym q) h
 
   -- the variants after 10, by their order

@@ -7,7 +7,8 @@ use mathlib.Core.List.{List}
 use native.Mathlib.Omega.{arith}
 use borrow.Author.Tests.{lt-ltb, le-ltb, le-leb, lt-leb, eq-eqb, ne_eqb}
 use Rattle.script.specs.Script.{is_within, value_of}
-use Rattle.script.specs.ByCharacter.{in_form, takes_digit, with_digit, with_byte, order_begun, order_on, order_bytes_on, read_in_form, read_on, bytes_in_form, bytes_on}
+use Rattle.script.specs.ByCharacter.{in_form, takes_digit, with_digit, with_byte, order_begun, order_on, order_bytes_on, read_in_form}
+use Rattle.script.specs.ByCharacter.{read_on, bytes_in_form, bytes_on}
 use Rattle.script.specs.declared.Form.{Form}
 use Rattle.script.specs.declared.Form.TheVariants.{Empty, Comment, Malformed}
 use Rattle.script.specs.declared.Reading.{Reading}

@@ -4,7 +4,6 @@ use Rattle.commands.specs.Commands.{block_length, listed_meaning}
 use Rattle.commands.specs.declared.Listed.{Listed}
 use Rattle.command_reader.specs.Reading.{command_of}
 use Rattle.explanations.proofs.Saying.{block-due}
-use borrow.Author.Rules.{rules}
 use Rattle.explanations.proofs.block_due.Goals as goal
 
 pub returns-in-Found : goal.returns-in-Found

