@@ -38,7 +38,10 @@ use Rattle.any_order.proofs.Runs.{Runs}
 -- the four crates as the pass begins
 abbrev pub begun_crates : Board → Begin → List Crate
 begun_crates β g =
-    begun_all (kind_of g) (word_of (stored_block β g) 0 ∷ word_of (stored_block β g) 1 ∷ word_of (stored_block β g) 2 ∷ word_of (stored_block β g) 3 ∷ []) β.crates
+    begun_all
+    (kind_of g)
+    (word_of (stored_block β g) 0 ∷ word_of (stored_block β g) 1 ∷ word_of (stored_block β g) 2 ∷ word_of (stored_block β g) 3 ∷ [])
+    β.crates
 
 -- the board in that pass, whose crates do not matter
 abbrev pub base : Board → Begin → Board

@@ -91,7 +91,9 @@ module _ (codes : List ℕ) (b code : ℕ) (h : b < length codes) (nonzero : cod
       (ap₂ (λ (ss : List Step) (c : ℕ). ss ++ failed_step b c) (failed-before b (omega arith)) (get_or-set_same codes b code 0 h)
       ∙ ap (λ (ss : List Step). failed_steps codes b ++ ss) (failed-one b code nonzero)
       ∙ ap (λ (ss : List Step). ss ++ (step b code ∷ []))
-      (sym (ap (λ (ss : List Step). failed_steps codes b ++ ss) (failed-none b (get_or codes b 0) (clear b (omega arith))) ∙ append-nil (failed_steps codes b))))
+      (sym
+      (ap (λ (ss : List Step). failed_steps codes b ++ ss) (failed-none b (get_or codes b 0) (clear b (omega arith)))
+      ∙ append-nil (failed_steps codes b))))
 
   -- a failure is the last of them
   pub failed-set : (n : ℕ) → b < n → failed_steps (set codes b code) n ≡ failed_steps codes n ++ (step b code ∷ [])
@@ -107,7 +109,9 @@ module _ (codes : List ℕ) (b code : ℕ) (h : b < length codes) (nonzero : cod
           ∙ ap (λ (ss : List Step). (failed_steps codes n ++ (step b code ∷ [])) ++ ss) (failed-none n (get_or codes n 0) (clear n (omega arith)))
           ∙ append-nil (failed_steps codes n ++ (step b code ∷ []))
           ∙ ap (λ (ss : List Step). ss ++ (step b code ∷ []))
-          (sym (ap (λ (ss : List Step). failed_steps codes n ++ ss) (failed-none n (get_or codes n 0) (clear n (omega arith))) ∙ append-nil (failed_steps codes n)))
+          (sym
+          (ap (λ (ss : List Step). failed_steps codes n ++ ss) (failed-none n (get_or codes n 0) (clear n (omega arith)))
+          ∙ append-nil (failed_steps codes n)))
       go false e ih = let m : n ≤ b = ltb-false _ _ e in failed-last n (omega arith)
 
   pub none_after : (j : ℕ) → b + 1 ≤ j → get_or (set codes b code) j 0 ≡ 0

@@ -80,7 +80,8 @@ next-todo kind w (suc n) b h = rw (served-is kind w b) (go (serves kind w b) (ne
         ∙ rw (left, add-one b) (ap (λ l. l ++ steps_from kind w n (suc b)) (all-steps kind b))
     go false ih = ih
 
-pub next-board-todo : (kind : PassKind) (w b : ℕ) → b < 10 → todo_at kind w (next_board kind w (b + 1)) (first_code kind) ≡ steps_from kind w (10 - (b + 1)) (b + 1)
+pub next-board-todo : (kind : PassKind) (w b : ℕ) → b < 10
+    → todo_at kind w (next_board kind w (b + 1)) (first_code kind) ≡ steps_from kind w (10 - (b + 1)) (b + 1)
 unfolding next_board
 next-board-todo kind w b h = next-todo kind w (10 - (b + 1)) (b + 1) (omega arith)
 

@@ -9,7 +9,8 @@ use lib.ListN.{length}
 use lib.Dec.{ltb}
 use borrow.Author.Tests.{lt-ltb, le-ltb}
 use Rattle.steps.specs.declared.Judged.{Judged}
-use Rattle.crate_pass.specs.Crate.{counted_frame, placed, advanced, stepped, noted, with_reply, with_record, with_outcome, after_good_reply, after_failed_send, moved}
+use Rattle.crate_pass.specs.Crate.{counted_frame, placed, advanced, stepped, noted, with_reply, with_record, with_outcome}
+use Rattle.crate_pass.specs.Crate.{after_good_reply, after_failed_send, moved}
 use Rattle.crate_pass.specs.declared.PassKind.{PassKind}
 use Rattle.crate_pass.specs.declared.Outcome.TheVariants.{Again, BoardFailed}
 use Rattle.crate_pass.specs.declared.Crate.{Crate}

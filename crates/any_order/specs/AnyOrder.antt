@@ -1,6 +1,7 @@
 -- 01, "Demand 3 is a single claim about the whole sequence, of any length and the empty one too"; 02, d, "Demand 3 covers the bytes too"; and 02, i,
 -- "Demand 3 holds for a rate pass": its definitions in the order of the paragraph, and the claim (`AnyOrder`).
-use Rattle.std.specs.Prelude.{ℕ, suc, ◌+◌, ◌*◌, ◌<◌, ◌≤◌, ◌≡◌, Bool, true, false, cond, not, ◌&&◌, ◌||◌, List, [], ◌∷◌, ◌++◌, map, ltb, leb, length, get_or, take, drop, replicate}
+use Rattle.std.specs.Prelude.{ℕ, suc, ◌+◌, ◌*◌, ◌<◌, ◌≤◌, ◌≡◌, Bool, true, false, cond, not, ◌&&◌, ◌||◌, ltb, leb}
+use Rattle.std.specs.Prelude.{List, [], ◌∷◌, ◌++◌, map, length, get_or, take, drop, replicate}
 use Rattle.refusals.specs.Tables.{Answer, given, refused, Rule, rule}
 use Rattle.refusals.specs.Writing.{output_after, writing}
 use Rattle.refusals.specs.declared.Written.{Written}

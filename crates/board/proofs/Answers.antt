@@ -35,6 +35,7 @@ both true t h = (tt, h)
 both false t h = absurd h
 
 pub applies-between : (a b : ℕ) (rs : List Rule) → T (between a b rs) → (n p : ℕ) → Applies rs n p → (a ≤ n) × (n ≤ b)
+applies-between a b [] t n p h = elim h [ ]
 applies-between a b (r ∷ rs) t n p h =
     let x = both (leb a r.number && leb r.number b) (between a b rs) t in
     let y = both (leb a r.number) (leb r.number b) x.0 in

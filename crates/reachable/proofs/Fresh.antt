@@ -41,7 +41,8 @@ used-up Fresh = (refl, refl)
 used-up UsedByRun = (refl, refl)
 used-up UsedByReset = (refl, refl)
 
-command-fresh : (b : Bool) (a : Answer Command) (f : Freshness) → accepted (changes b) a ≡ false → is_fresh f ≡ b → is_fresh (used_after (where_accepted a) f) ≡ b
+command-fresh : (b : Bool) (a : Answer Command) (f : Freshness) → accepted (changes b) a ≡ false → is_fresh f ≡ b
+    → is_fresh (used_after (where_accepted a) f) ≡ b
 command-fresh b (given (Read kind)) f e h = h
 command-fresh true (given Write) f e h = refl
 command-fresh false (given Write) f e h = false≢true (sym e)
@@ -66,7 +67,8 @@ call-fresh b β x free h = ap is_fresh (after-call β x) ∙ go x free
     go (hand_in c event out) free = h
     go begin_rates free = h
 
-calls-fresh : (b : Bool) (β : Board) (xs : List Call) → none_gets (accepted (changes b)) false β xs ≡ true → board_fresh β ≡ b → board_fresh (after_all β xs) ≡ b
+calls-fresh : (b : Bool) (β : Board) (xs : List Call) → none_gets (accepted (changes b)) false β xs ≡ true → board_fresh β ≡ b
+    → board_fresh (after_all β xs) ≡ b
 calls-fresh b β xs e f = kept-by-calls (accepted (changes b)) false (λ (γ : Board). board_fresh γ ≡ b) (call-fresh b) β xs e f
 
 -- ---- so a start gets 10, or is accepted

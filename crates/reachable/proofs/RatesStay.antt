@@ -100,7 +100,8 @@ module _ (id firmware : ℕ) (i : id < id_limit) (f : firmware < 65536) where
         (finished-stay now xs (holds-all (fresh_board id firmware) before (holds-power-up id firmware i f)) free n)
 
   -- up to the first rate pass they are zeros
-  pub rates-at-power-up : (xs : List Call) → no_rates_begun (fresh_board id firmware) xs ≡ true → GivesRates (after_all (fresh_board id firmware) xs) rates_at_power_up
+  pub rates-at-power-up : (xs : List Call) → no_rates_begun (fresh_board id firmware) xs ≡ true
+      → GivesRates (after_all (fresh_board id firmware) xs) rates_at_power_up
   unfolding fresh_board
   rates-at-power-up xs free =
       gives-rates (after_all (fresh_board id firmware) xs) rates_at_power_up

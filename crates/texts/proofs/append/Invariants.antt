@@ -1,0 +1,15 @@
+use Prim.Native.Nat.{ℕ, ◌+◌, ◌-◌, ◌≤◌}
+use mathlib.Core.Path.{◌≡◌, sym, ap, ◌∙◌}
+use lib.ListN.{length, drop, drop_of_length-le}
+use Rattle.texts.proofs.Laws.{store-more}
+use lib.Seq.{sets}
+use borrow.Author.Rules.{rules}
+use native.Mathlib.Omega.{arith}
+use Rattle.texts.proofs.append.Given as goal
+
+-- `texts::append` meets its contract. Assumes nothing.
+abbrev pub invariant-loop-i : goal.invariant-loop-i
+invariant-loop-i l = (l.i ≤ length l.characters) × (sets l.text (l.at + l.i) (drop l.i l.characters) ≡ sets l.initial.text l.at l.characters)
+
+abbrev pub decreases-loop-i : goal.decreases-loop-i
+decreases-loop-i l = length l.characters - l.i

@@ -1,0 +1,14 @@
+-- `texts::append_bytes` meets its contract. Assumes nothing.
+use Prim.Native.Nat.{◌≤◌, ◌-◌, ◌*◌}
+use lib.ListN.{take}
+use Rattle.texts.specs.Texts.{hex_byte, joined}
+use Rattle.texts.specs.CodeShape.{Appended}
+use Rattle.texts.proofs.Laws.{nothing, joined-more, joined-all}
+use borrow.Author.Rules.{rules}
+use native.Mathlib.Omega.{arith}
+use Rattle.texts.proofs.append_bytes.Goals as goal
+
+pub loop-i-preserved : goal.loop-i-preserved
+loop-i-preserved c =
+    let a = c.args in
+    (search rules, joined-more hex_byte a.bytes.now (omega arith) (omega arith) c.loop-i.invariant.1 c.append_hex_byte-next.ensures)

@@ -1,0 +1,18 @@
+use Prim.Native.Nat.{ℕ, ◌≤◌, ◌-◌, ◌*◌}
+use mathlib.Core.List.{List, map}
+use mathlib.Core.Path.{refl, sym, ap}
+use lib.ListN.{length, take}
+use lib.Seq.{take_all}
+use Rattle.texts.specs.Texts.{decimal, spaced}
+use Rattle.texts.specs.CodeShape.{Appended}
+use Rattle.texts.proofs.Laws.{nothing, within, spaced-more}
+use borrow.Author.Rules.{rules}
+use native.Mathlib.Omega.{arith}
+use Rattle.texts.proofs.append_numbers.Given as goal
+
+-- `texts::append_numbers` meets its contract. Assumes nothing.
+abbrev pub invariant-loop-i : goal.invariant-loop-i
+invariant-loop-i l = (l.i ≤ length l.numbers) × Appended l.initial.text 0 (spaced (map decimal (take l.i l.numbers))) (21 * l.i) l.next l.text
+
+abbrev pub decreases-loop-i : goal.decreases-loop-i
+decreases-loop-i l = length l.numbers - l.i

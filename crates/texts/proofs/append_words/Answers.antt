@@ -1,0 +1,14 @@
+-- `texts::append_words` meets its contract. Assumes nothing.
+use Prim.Native.Nat.{◌≤◌, ◌-◌, ◌*◌}
+use lib.ListN.{take}
+use Rattle.texts.specs.Texts.{hex_word, joined}
+use Rattle.texts.specs.CodeShape.{Appended}
+use Rattle.texts.proofs.Laws.{nothing, joined-more, joined-all}
+use borrow.Author.Rules.{rules}
+use native.Mathlib.Omega.{arith}
+use Rattle.texts.proofs.append_words.Goals as goal
+
+pub loop-place-preserved : goal.loop-place-preserved
+loop-place-preserved c =
+    let a = c.args in
+    (search rules, joined-more hex_word a.words.now (omega arith) (omega arith) c.loop-place.invariant.1 c.append_hex_word-next.ensures)
