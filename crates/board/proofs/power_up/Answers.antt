@@ -6,7 +6,9 @@ use Rattle.board.proofs.power_up.Goals as goal
 
 pub returns-then-board_id-ge-ID_LIMIT : goal.returns-then-board_id-ge-ID_LIMIT
 unfolding power_up_answer
-returns-then-board_id-ge-ID_LIMIT c = record { answer = rw (le-leb _ _ c.if-board_id-ge-ID_LIMIT.true); board = rw (le-leb _ _ c.if-board_id-ge-ID_LIMIT.true) c.fresh_board.ensures }
+returns-then-board_id-ge-ID_LIMIT c =
+    let past = le-leb _ _ c.if-board_id-ge-ID_LIMIT.true in
+    record { answer = rw past; board = rw past c.fresh_board.ensures }
 
 pub returns : goal.returns
 unfolding power_up_answer

@@ -6,7 +6,8 @@ use Rattle.words.proofs.copy_words.Given as goal
 
 -- `words::copy_words` meets its contract. Assumes nothing.
 abbrev pub invariant-loop-i : goal.invariant-loop-i
-invariant-loop-i l = (l.i ≤ length l.src) × (l.i ≤ length l.initial.dst) × (l.dst ≡ take l.i l.src ++ drop l.i l.initial.dst) × (length l.dst ≡ length l.initial.dst)
+invariant-loop-i l =
+    (l.i ≤ length l.src) × (l.i ≤ length l.initial.dst) × (l.dst ≡ take l.i l.src ++ drop l.i l.initial.dst) × (length l.dst ≡ length l.initial.dst)
 
 abbrev pub decreases-loop-i : goal.decreases-loop-i
 decreases-loop-i l = length l.src - l.i

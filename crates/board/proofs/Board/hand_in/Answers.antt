@@ -56,15 +56,21 @@ last-asked i l = go (ltb 3 i) refl
 
 pub returns-in-0-index : goal.returns-in-0-index
 unfolding with_crates
-returns-in-0-index c = let s = (goal.at.returns-in-0-index c).After-serve-served in stored s 0 (inl (omega arith)) (omega arith) (own-low s 0 (omega arith) (omega arith))
+returns-in-0-index c =
+    let s = (goal.at.returns-in-0-index c).After-serve-served in
+    stored s 0 (inl (omega arith)) (omega arith) (own-low s 0 (omega arith) (omega arith))
 
 pub returns-in-1-index : goal.returns-in-1-index
 unfolding with_crates
-returns-in-1-index c = let s = (goal.at.returns-in-1-index c).After-serve-served in stored s 1 (inl (omega arith)) (omega arith) (own-low s 1 (omega arith) (omega arith))
+returns-in-1-index c =
+    let s = (goal.at.returns-in-1-index c).After-serve-served in
+    stored s 1 (inl (omega arith)) (omega arith) (own-low s 1 (omega arith) (omega arith))
 
 pub returns-in-2-index : goal.returns-in-2-index
 unfolding with_crates
-returns-in-2-index c = let s = (goal.at.returns-in-2-index c).After-serve-served in stored s 2 (inl (omega arith)) (omega arith) (own-low s 2 (omega arith) (omega arith))
+returns-in-2-index c =
+    let s = (goal.at.returns-in-2-index c).After-serve-served in
+    stored s 2 (inl (omega arith)) (omega arith) (own-low s 2 (omega arith) (omega arith))
 
 pub returns-in_default-index : goal.returns-in_default-index
 unfolding with_crates
