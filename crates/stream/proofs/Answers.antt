@@ -42,6 +42,7 @@ both_true true b t = (refl, t)
 both_true false b t = absurd t
 
 applies-stops : (rs : List Rule) (n p : ℕ) → T (all_stop rs) → Applies rs n p → stops n ≡ true
+applies-stops [] n p t h = elim h [ ]
 applies-stops (r ∷ rs) n p t (inl h) = ap stops (sym h.1) ∙ (both_true (stops r.number) (all_stop rs) t).0
 applies-stops (r ∷ rs) n p t (inr h) = applies-stops rs n p (both_true (stops r.number) (all_stop rs) t).1 h
 
