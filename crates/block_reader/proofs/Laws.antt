@@ -67,7 +67,8 @@ module _ (kind : Kind) (w : List ℕ) where
 
   module _ (l : length w ≡ 11 + body_length kind) where
     -- the check of the body found a word above its bound
-    pub read-8 : (r : BoundsChecked) → checked_meaning r ≡ lowest (body_above kind (drop 11 w) ∷ []) tt → (p : ℕ) → r ≡ Above p → refused 8 p ≡ block_answer kind w
+    pub read-8 : (r : BoundsChecked) → checked_meaning r ≡ lowest (body_above kind (drop 11 w) ∷ []) tt → (p : ℕ) → r ≡ Above p
+        → refused 8 p ≡ block_answer kind w
     unfolding block_answer read_rules
     read-8 r e p q = let a = row-above (body_above kind (drop 11 w)) r e p q in rw (sym a.2) (simp (eq-eqb _ _ l, a.0))
 

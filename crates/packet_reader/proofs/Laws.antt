@@ -23,7 +23,8 @@ module _ (b : List ℕ) where
   unfolding packet_answer read_rules
   wrong-crc l n = simp (eq-eqb _ _ l, ne_eqb _ _ n)
 
-  module _ (l : length b ≡ 7) (k : ℕ) (ek : k ≡ crc packet_start (get_or b 0 0 ∷ get_or b 1 0 ∷ get_or b 2 0 ∷ get_or b 3 0 ∷ get_or b 4 0 ∷ get_or b 5 0 ∷ [])) where
+  module _ (l : length b ≡ 7) (k : ℕ)
+      (ek : k ≡ crc packet_start (get_or b 0 0 ∷ get_or b 1 0 ∷ get_or b 2 0 ∷ get_or b 3 0 ∷ get_or b 4 0 ∷ get_or b 5 0 ∷ [])) where
     -- the CRC that was computed is that of bytes 0 to 5
     computed : crc packet_start (take 6 b) ≡ k
     computed =

@@ -20,4 +20,5 @@ pub returns : goal.returns
 returns c =
     let l = c.if-bytes-ne7.false in
     let f = c.fields_in-fields.ensures in
-    read-packet _ l _ c.crc_of_six-sum.ensures c.if-sum-bytes.false _ f _ c.in_range.ensures _ c.number_in-number.ensures (not_from_true _ c.if-not-in_range.false)
+    read-packet _ l _ c.crc_of_six-sum.ensures c.if-sum-bytes.false _ f _ c.in_range.ensures _ c.number_in-number.ensures
+    (not_from_true _ c.if-not-in_range.false)
