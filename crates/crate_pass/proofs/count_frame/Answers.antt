@@ -1,5 +1,4 @@
 -- `crate_pass::count_frame` meets its contract. Assumes nothing.
-use borrow.Author.Rules.{rules}
 use borrow.Author.Tests.{lt-ltb, le-ltb}
 use Rattle.crate_pass.specs.Crate.{counted_frame}
 use Rattle.crate_pass.proofs.count_frame.Goals as goal

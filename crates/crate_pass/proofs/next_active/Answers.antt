@@ -1,10 +1,7 @@
 -- `crate_pass::next_active` meets its contract. Assumes nothing.
-use Prim.Native.Nat.{◌-◌}
-use mathlib.Core.Path.{◌≡◌, refl, sym, ◌∙◌}
+use mathlib.Core.Path.{sym, ◌∙◌}
 use native.Mathlib.Omega.{arith}
-use borrow.Author.Rules.{rules}
 use Rattle.crate_pass.specs.declared.PassKind.TheVariants.{Reprogramming}
-use Rattle.crate_pass.specs.Crate.{next_board}
 use Rattle.crate_pass.proofs.Next.{next_here, next-skip, next-none}
 use Rattle.crate_pass.proofs.next_active.Goals as goal
 

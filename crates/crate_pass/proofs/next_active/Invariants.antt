@@ -1,10 +1,7 @@
 use Prim.Native.Nat.{◌-◌}
-use mathlib.Core.Path.{◌≡◌, refl, sym, ◌∙◌}
-use native.Mathlib.Omega.{arith}
-use borrow.Author.Rules.{rules}
+use mathlib.Core.Path.{◌≡◌}
 use Rattle.crate_pass.specs.declared.PassKind.TheVariants.{Reprogramming}
 use Rattle.crate_pass.specs.Crate.{next_board}
-use Rattle.crate_pass.proofs.Next.{next_here, next-skip, next-none}
 use Rattle.crate_pass.proofs.next_active.Given as goal
 
 -- `crate_pass::next_active` meets its contract. Assumes nothing.

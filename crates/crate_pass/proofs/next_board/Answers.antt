@@ -1,6 +1,5 @@
 -- `crate_pass::next_board` meets its contract. Assumes nothing.
 use mathlib.Core.Path.{refl, sym, ◌∙◌}
-use borrow.Author.Rules.{rules}
 use Rattle.crate_pass.specs.declared.PassKind.TheVariants.{Ping}
 use Rattle.crate_pass.proofs.Next.{next_here, next-none, next-rates}
 use Rattle.crate_pass.proofs.next_board.Goals as goal

@@ -1,5 +1,4 @@
 -- `crate_pass::next_place` meets its contract. Assumes nothing.
-use borrow.Author.Rules.{rules}
 use Rattle.crate_pass.specs.CodeShape.{next_place}
 use Rattle.crate_pass.proofs.next_place.Goals as goal
 

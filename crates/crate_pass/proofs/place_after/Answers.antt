@@ -1,5 +1,4 @@
 -- `crate_pass::place_after` meets its contract. Assumes nothing.
-use borrow.Author.Rules.{rules}
 use borrow.Author.Tests.{lt-ltb, le-ltb}
 use Rattle.crate_pass.specs.CodeShape.{place_after}
 use Rattle.crate_pass.proofs.place_after.Goals as goal

@@ -1,6 +1,5 @@
 -- `four_crates::begin_all` meets its contract. Assumes nothing.
 use Rattle.four_crates.specs.FourCrates.{begun_all}
-use borrow.Author.Rules.{rules}
 use Rattle.four_crates.proofs.begin_all.Goals as goal
 
 pub returns : goal.returns

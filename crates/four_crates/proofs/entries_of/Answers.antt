@@ -1,9 +1,8 @@
 -- `four_crates::entries_of` meets its contract. Assumes nothing.
-use Prim.Native.Nat.{◌≤◌, ◌-◌}
-use mathlib.Core.Path.{◌≡◌, refl, sym, ap, ◌∙◌}
+use mathlib.Core.Path.{◌≡◌, sym, ap, ◌∙◌}
 use mathlib.Core.List.{List, ◌++◌, append-nil}
 use native.Mathlib.Numerals.{add-one}
-use lib.ListN.{length, take, drop, set, replicate, length-set}
+use lib.ListN.{take, drop, set, replicate, length-set}
 use lib.Seq.{take_all}
 use Rattle.words.proofs.Laws.{store-more}
 use Rattle.ftu_list.specs.declared.Entry.{Entry}

@@ -1,16 +1,9 @@
 use Prim.Native.Nat.{◌≤◌, ◌-◌}
-use mathlib.Core.Path.{◌≡◌, refl, sym, ap, ◌∙◌}
-use mathlib.Core.List.{List, ◌++◌, append-nil}
-use native.Mathlib.Numerals.{add-one}
-use lib.ListN.{length, take, drop, set, replicate, length-set}
-use lib.Seq.{take_all}
-use Rattle.words.proofs.Laws.{store-more}
-use Rattle.ftu_list.specs.declared.Entry.{Entry}
+use mathlib.Core.Path.{◌≡◌}
+use mathlib.Core.List.{◌++◌}
+use lib.ListN.{length, take, drop, replicate}
 use Rattle.crate_pass.specs.Crate.{silent}
 use Rattle.four_crates.specs.FourCrates.{entries_of}
-use Rattle.four_crates.proofs.Entries.{entry_of, forty}
-use borrow.Author.Rules.{rules}
-use native.Mathlib.Omega.{arith}
 use Rattle.four_crates.proofs.entries_of.Given as goal
 
 -- `four_crates::entries_of` meets its contract. Assumes nothing.

@@ -2,7 +2,6 @@
 use native.Mathlib.Omega.{arith}
 use Rattle.four_crates.specs.FourCrates.{failed_at}
 use borrow.Author.Tests.{lt-ltb, le-ltb}
-use borrow.Author.Rules.{rules}
 use Rattle.four_crates.proofs.failed_at.Goals as goal
 
 pub returns-then-k-lt40 : goal.returns-then-k-lt40

@@ -1,7 +1,6 @@
 -- `four_crates::first_on` meets its contract. Assumes nothing.
 use mathlib.Core.Path.{sym, ◌∙◌}
 use Rattle.four_crates.proofs.OneCrate.{first-11, first-none, first_counted, first-given}
-use borrow.Author.Rules.{rules}
 use Rattle.four_crates.proofs.first_on.Goals as goal
 
 -- `four_crates::first_on` meets its contract. Assumes nothing.

@@ -5,7 +5,6 @@ use mathlib.Core.Bool.{Bool, true, false, not}
 use lib.Dec.{ltb, leb}
 use borrow.Author.Tests.{ltb-true, ltb-false, lt-leb, le-leb}
 use Rattle.four_crates.specs.FourCrates.{in_pass, crate_of}
-use borrow.Author.Rules.{rules}
 use Rattle.four_crates.proofs.in_pass.Goals as goal
 
 -- a place is a board, or past the last

@@ -1,6 +1,5 @@
 -- `four_crates::rates_of` meets its contract. Assumes nothing.
 use Rattle.four_crates.proofs.Rates.{rates-put}
-use borrow.Author.Rules.{rules}
 use Rattle.four_crates.proofs.rates_of.Goals as goal
 
 pub returns : goal.returns

@@ -1,9 +1,7 @@
 -- `four_crates::record_at` meets its contract. Assumes nothing.
-use Prim.Native.Nat.{ℕ, ◌-◌, ◌+◌}
-use mathlib.Core.Path.{◌≡◌, sym, ap, ◌∙◌}
-use Rattle.refusals.specs.Tables.{given}
-use Rattle.four_crates.specs.FourCrates.{failure, record_answer}
-use Rattle.four_crates.proofs.Records.{found, found-skip, found_here, found-later, found_none, found_first}
+use Prim.Native.Nat.{◌+◌}
+use mathlib.Core.Path.{sym, ap, ◌∙◌}
+use Rattle.four_crates.proofs.Records.{found, found-skip, found-later, found_first}
 use borrow.Author.Rules.{rules}
 use Rattle.four_crates.proofs.record_at.Goals as goal
 use Rattle.four_crates.proofs.record_at.Goals.{then-code-ne0+else-left-eq0, else-code-ne0}

@@ -1,10 +1,7 @@
-use Prim.Native.Nat.{ℕ, ◌-◌, ◌+◌}
-use mathlib.Core.Path.{◌≡◌, sym, ap, ◌∙◌}
-use mathlib.Core.Logic.{⊎_elim}
-use Rattle.refusals.specs.Tables.{given}
-use Rattle.four_crates.specs.FourCrates.{failure, record_answer}
-use Rattle.four_crates.proofs.Records.{found, found-skip, found_here, found-later, found_none, found_first}
-use borrow.Author.Rules.{rules}
+use Prim.Native.Nat.{◌-◌}
+use mathlib.Core.Path.{◌≡◌}
+use Rattle.four_crates.specs.FourCrates.{record_answer}
+use Rattle.four_crates.proofs.Records.{found}
 use Rattle.four_crates.proofs.record_at.Given as goal
 
 -- `four_crates::record_at` meets its contract. Assumes nothing.

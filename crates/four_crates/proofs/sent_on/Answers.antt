@@ -1,6 +1,5 @@
 -- `four_crates::sent_on` meets its contract. Assumes nothing.
 use Rattle.four_crates.proofs.OneCrate.{sent-11, sent-given}
-use borrow.Author.Rules.{rules}
 use Rattle.four_crates.proofs.sent_on.Goals as goal
 
 -- `four_crates::sent_on` meets its contract. Assumes nothing.

@@ -1,6 +1,5 @@
 -- `crate_pass::Crate::begin` meets its contract. Assumes nothing.
 use mathlib.Core.Path.{sym, ◌∙◌}
-use borrow.Author.Rules.{rules}
 use Rattle.crate_pass.specs.Crate.{begun_crate}
 use Rattle.crate_pass.proofs.Cleared.{lists-only}
 use Rattle.crate_pass.proofs.Crate.begin.Goals as goal

@@ -1,5 +1,4 @@
 -- `crate_pass::Crate::moved` meets its contract. Assumes nothing.
-use borrow.Author.Rules.{rules}
 use Rattle.crate_pass.proofs.Serving.{moved-good, moved-again, moved-failed}
 use Rattle.crate_pass.proofs.Crate.moved.Goals as goal
 

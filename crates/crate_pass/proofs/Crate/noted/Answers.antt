@@ -1,6 +1,5 @@
 -- `crate_pass::Crate::noted` meets its contract. Assumes nothing.
 use mathlib.Core.Path.{refl}
-use borrow.Author.Rules.{rules}
 use borrow.Author.Tests.{eq-eqb, ne_eqb}
 use Rattle.crate_pass.specs.Crate.{with_entry_in, with_rates_in, noted}
 use Rattle.crate_pass.proofs.Crate.noted.Goals as goal

@@ -1,5 +1,4 @@
 -- `crate_pass::Crate::serve` meets its contract. Assumes nothing.
-use borrow.Author.Rules.{rules}
 use Rattle.crate_pass.proofs.Serving.{serves-high, serves-none, serves-short, serves-next, serves-done}
 use Rattle.crate_pass.proofs.Crate.serve.Goals as goal
 
