@@ -1,6 +1,5 @@
 -- `blocks::header_words` meets its contract. Assumes nothing.
 use Rattle.blocks.specs.Blocks.{header_words}
-use borrow.Author.Rules.{rules}
 use Rattle.blocks.proofs.header_words.Goals as goal
 
 pub returns : goal.returns

@@ -9,7 +9,6 @@ use Rattle.words.specs.Words.{copied}
 use Rattle.words.proofs.Laws.{copied-front}
 use Rattle.blocks.specs.Blocks.{header_words}
 use Rattle.blocks.proofs.Laws.{length-header, header-19, header-20, header-clear}
-use borrow.Author.Rules.{rules}
 use native.Mathlib.Omega.{arith}
 use Rattle.blocks.proofs.put_header.Goals as goal
 

@@ -14,8 +14,10 @@ use Rattle.blocks.proofs.write_dynamic.Goals as goal
 
 counter-fits : (c : Start) → c.args.h.trigger_counter < 2 ^ 32
 counter-fits c = search (rules, c.well_formed)
+
 rates-length : (c : Start) → length c.args.rates ≡ 480
 rates-length c = search rules
+
 -- where the header's writer did not refuse, there is room
 room : (c : In-Length) → 498 ≤ length c.args.out.now
 room c =

@@ -3,7 +3,6 @@ use Prim.Native.Nat.{◌-◌}
 use lib.ListN.{length}
 use native.Mathlib.Omega.{arith}
 use Rattle.configuration.proofs.Parts.{board-short, board-whole}
-use borrow.Author.Rules.{rules}
 use Rattle.configuration.proofs.board_words.Goals as goal
 
 pub returns-then-block-from : goal.returns-then-block-from

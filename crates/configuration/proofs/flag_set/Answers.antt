@@ -1,7 +1,6 @@
 -- `configuration::flag_set` meets its contract. Assumes nothing.
 use native.Mathlib.Omega.{arith}
 use Rattle.configuration.proofs.Parts.{flag-high}
-use borrow.Author.Rules.{rules}
 use Rattle.configuration.proofs.flag_set.Goals as goal
 
 -- `configuration::flag_set` meets its contract. Assumes nothing.

@@ -18,7 +18,7 @@ loop-k-preserved c =
     let f = c.failed_at-code.ensures in
     let there = found a.crates (l.k + 1) in
     elim c.if-code-ne0.branch [
-      then-code-ne0+else-left-eq0 w ↦
-        ap there w.left-is ∙ sym (found-later a.crates l.k l.left (search rules) (λ q. w.if-code-ne0.true (f ∙ q)) w.if-left-eq0.false) ∙ l.invariant
-    | else-code-ne0 w ↦ ap there w.left-is ∙ sym (found-skip a.crates l.k l.left (search rules) (sym f ∙ w.if-code-ne0.false)) ∙ l.invariant
+      | then-code-ne0+else-left-eq0 w ↦
+          ap there w.left-is ∙ sym (found-later a.crates l.k l.left (search rules) (λ q. w.if-code-ne0.true (f ∙ q)) w.if-left-eq0.false) ∙ l.invariant
+      | else-code-ne0 w ↦ ap there w.left-is ∙ sym (found-skip a.crates l.k l.left (search rules) (sym f ∙ w.if-code-ne0.false)) ∙ l.invariant
     ]

@@ -11,7 +11,5 @@ unfolding before_crc
 returns c =
     let a = c.args in
     let n : length a.w ≡ 5 = search rules in
-    
-    
     rw (c.word_bytes-a.ensures, c.word_bytes-b.ensures, c.word_bytes-c.ensures, c.word_bytes-d.ensures, c.word_bytes-e.ensures)
     (ap (before_crc a.address a.number) (listed a.w 5 n))

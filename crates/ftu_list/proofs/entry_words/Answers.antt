@@ -1,7 +1,6 @@
 -- `ftu_list::entry_words` meets its contract. Assumes nothing.
 use borrow.Author.Tests.{eq-eqb, ne_eqb}
 use Rattle.ftu_list.specs.List.{entry_words}
-use borrow.Author.Rules.{rules}
 use Rattle.ftu_list.proofs.entry_words.Goals as goal
 
 -- `ftu_list::entry_words` meets its contract. Assumes nothing.

@@ -2,7 +2,6 @@
 use mathlib.Core.List.{[], ◌∷◌}
 use lib.ListN.{get_or}
 use Rattle.ftu_list.specs.List.{list_head}
-use borrow.Author.Rules.{rules}
 use Rattle.ftu_list.proofs.list_head.Goals as goal
 
 pub returns : goal.returns

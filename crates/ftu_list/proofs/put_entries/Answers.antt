@@ -2,7 +2,7 @@
 use lib.Seq.{length-take-le, take_all}
 use Rattle.ftu_list.specs.declared.Entry.{Entry}
 use Rattle.words.proofs.Laws.{copied-part, part-output, part_length}
-use Prim.Native.Nat.{ℕ, ◌+◌, ◌-◌, ◌*◌, ◌≤◌}
+use Prim.Native.Nat.{ℕ, ◌+◌, ◌-◌, ◌*◌}
 use mathlib.Core.Path.{◌≡◌, sym, ap, ap₂, ◌∙◌}
 use mathlib.Core.List.{List, ◌++◌}
 use native.Mathlib.Numerals.{add-one}

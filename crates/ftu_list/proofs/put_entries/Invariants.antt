@@ -1,16 +1,8 @@
-use lib.Seq.{length-take-le, take_all}
-use Rattle.ftu_list.specs.declared.Entry.{Entry}
-use Rattle.words.proofs.Laws.{copied-part, part-output, part_length}
-use Prim.Native.Nat.{ℕ, ◌+◌, ◌-◌, ◌*◌, ◌≤◌}
-use mathlib.Core.Path.{◌≡◌, sym, ap, ap₂, ◌∙◌}
-use mathlib.Core.List.{List, ◌++◌}
-use native.Mathlib.Numerals.{add-one}
-use lib.ListN.{length, take, drop, get_or}
-use Rattle.words.specs.Words.{copied}
-use Rattle.ftu_list.specs.List.{entry_words, entry_words_from}
-use Rattle.ftu_list.proofs.Laws.{silent, length-entry, length-entries, entries-more}
-use borrow.Author.Rules.{rules}
-use native.Mathlib.Omega.{arith}
+use Prim.Native.Nat.{◌-◌, ◌*◌, ◌≤◌}
+use mathlib.Core.Path.{◌≡◌}
+use mathlib.Core.List.{◌++◌}
+use lib.ListN.{length, take, drop}
+use Rattle.ftu_list.specs.List.{entry_words_from}
 use Rattle.ftu_list.proofs.put_entries.Given as goal
 
 -- `ftu_list::put_entries` meets its contract. Assumes nothing.

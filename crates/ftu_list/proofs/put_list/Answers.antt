@@ -7,7 +7,6 @@ use Rattle.words.specs.Words.{copied}
 use Rattle.words.proofs.Laws.{both-output}
 use Rattle.ftu_list.specs.List.{list_head, entry_words_from}
 use Rattle.ftu_list.proofs.Laws.{length-head, length-entries, length-mapped}
-use borrow.Author.Rules.{rules}
 use native.Mathlib.Omega.{arith}
 use Rattle.ftu_list.proofs.put_list.Goals as goal
 

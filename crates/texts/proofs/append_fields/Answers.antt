@@ -20,10 +20,12 @@ shown : {d e : List ℕ} {s t : Response} {m next : ℕ} (bytes words : List ℕ
     → Appended d 0 (spaced (fields_of (response_meaning t bytes words))) m next e
     → Appended d 0 (spaced (fields_of (response_meaning s bytes words))) 2058 next e
 shown bytes words h k p = within (ap (λ (s : Response). spaced (fields_of (response_meaning s bytes words))) h) k p
+
 -- where the crate is done, the bytes are not printed
 next-unless : (done : Bool) (bytes : List ℕ) → next_text done (cond done [] bytes) ≡ next_text done bytes
 next-unless true bytes = refl
 next-unless false bytes = refl
+
 served-in : (o : Outcome) (bytes : List ℕ) → spaced (fields_of (served o (next_frame o bytes))) ≡ spaced (fields_of (served o bytes))
 served-in o bytes = ap (λ (next : List ℕ). spaced (ascii "0" ∷ outcome_text o ∷ next ∷ [])) (next-unless (says_done o) bytes)
 

@@ -20,6 +20,7 @@ said : {d e : List ℕ} {r s : Reason} {m next : ℕ} (listed number : List ℕ)
 said {s = s} listed number h n k p =
     let e = ap (λ (q : Reason). spaced (fields_of (explanation (reason_meaning q listed)))) h in
     within (e ∙ ap (λ (l : List ℕ). spaced (l ∷ reason_fields (reason_meaning s listed))) n) k p
+
 ten : decimal 10 ≡ ascii "10"
 unfolding decimal
 ten = refl

@@ -19,19 +19,19 @@ own-low : (c : After-serve-served) (j : ℕ) → c.args.index ≡ j → j ≤ 2 
 own-low c j e l =
     let crate = crate_at c.args.self in
     elim c.match-index.branch [
-      in-0 w ↦ let q : 0 ≡ j = omega arith in w.own-is ∙ ap crate q
-    | in-1 w ↦ let q : 1 ≡ j = omega arith in w.own-is ∙ ap crate q
-    | in-2 w ↦ let q : 2 ≡ j = omega arith in w.own-is ∙ ap crate q
-    | in_default w ↦ absurd (let z : ⊥ = omega arith in z)
+      | in-0 w ↦ let q : 0 ≡ j = omega arith in w.own-is ∙ ap crate q
+      | in-1 w ↦ let q : 1 ≡ j = omega arith in w.own-is ∙ ap crate q
+      | in-2 w ↦ let q : 2 ≡ j = omega arith in w.own-is ∙ ap crate q
+      | in_default w ↦ absurd (let z : ⊥ = omega arith in z)
     ]
 
 own-last : (c : After-serve-served) → 3 ≤ c.args.index → c.match-index.own ≡ crate_at c.args.self 3
 own-last c l =
     elim c.match-index.branch [
-      in-0 w ↦ absurd (let z : ⊥ = omega arith in z)
-    | in-1 w ↦ absurd (let z : ⊥ = omega arith in z)
-    | in-2 w ↦ absurd (let z : ⊥ = omega arith in z)
-    | in_default w ↦ w.own-is
+      | in-0 w ↦ absurd (let z : ⊥ = omega arith in z)
+      | in-1 w ↦ absurd (let z : ⊥ = omega arith in z)
+      | in-2 w ↦ absurd (let z : ⊥ = omega arith in z)
+      | in_default w ↦ w.own-is
     ]
 
 -- it is served, and stored at its place j
