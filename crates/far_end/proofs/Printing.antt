@@ -78,7 +78,8 @@ command-room Ping w clear = omega arith
 command-room (CrateReset n) w clear = omega arith
 
 -- commands other than a write have no block, whatever words follow
-block-alone : (c : Command) (w : List ℕ) → due_printed in_words (lowest (write_rules c w) (command_words c w)) ≡ far_end_printed (write_command c (block_taken c w))
+block-alone : (c : Command) (w : List ℕ)
+    → due_printed in_words (lowest (write_rules c w) (command_words c w)) ≡ far_end_printed (write_command c (block_taken c w))
 unfolding far_end_printed
 block-alone (Read kind) w = refl
 block-alone Write w = refl
@@ -165,7 +166,8 @@ module _ (kind : Kind) (b : List ℕ) where
   unfolding far_end_printed
   half-word n = ap far_end_printed (unasked _ _ (ne_eqb _ _ n))
 
-  pub in-words : length b % 2 ≡ 0 → (w : List ℕ) → w ≡ words_in b → far_end_printed (read_block kind w) ≡ far_end_printed (any_words other_form (read_block kind) b)
+  pub in-words : length b % 2 ≡ 0 → (w : List ℕ) → w ≡ words_in b
+      → far_end_printed (read_block kind w) ≡ far_end_printed (any_words other_form (read_block kind) b)
   in-words l w e = ap far_end_printed (ap (read_block kind) e ∙ asked _ _ (eq-eqb _ _ l))
 
 -- the kind by the first byte

@@ -3,21 +3,18 @@
 -- Assumes nothing.
 use Prim.Native.Nat.{ℕ}
 use mathlib.Core.Path.{◌≡◌, refl, sym, ap, ap₂, ◌∙◌, subst}
-use mathlib.Core.Bool.{Bool, true, false, cond, not}
+use mathlib.Core.Bool.{Bool, true, false, cond}
 use mathlib.Core.List.{List, [], ◌∷◌}
 use lib.ListN.{set}
 use Rattle.refusals.specs.Tables.{Answer, given, refused}
-use Rattle.commands.specs.declared.Command.{Command}
 use Rattle.commands.specs.declared.Command.TheVariants.{Stop}
-use Rattle.command_reader.specs.Reading.{taken, command_answer, block_of}
-use Rattle.round_trips.proofs.Commands.{read-written}
-use Rattle.acceptance.proofs.Deciding.{by_state}
+use Rattle.command_reader.specs.Reading.{block_of}
 use Rattle.run.specs.Run.{is_running, stopped, clocked_run, trigger_answer, after_answer}
 use Rattle.run.specs.declared.Run.{Run}
 use Rattle.crate_pass.specs.Crate.{unless_refused}
 use Rattle.crate_pass.specs.declared.Outcome.{Outcome}
-use Rattle.board.specs.State.{status_of, with_run, with_crates}
-use Rattle.board.specs.Commands.{board_answer, after_command, board_after}
+use Rattle.board.specs.State.{with_run, with_crates}
+use Rattle.board.specs.Commands.{after_command, board_after}
 use Rattle.board.specs.SlowControl.{frame_at, moved_at, reply_answer, board_replied, bytes_replied}
 use Rattle.board.specs.declared.Board.{Board}
 use Rattle.board.specs.declared.Identity.{Identity}
@@ -31,6 +28,7 @@ use Rattle.reachable.specs.Between.{Act, item, other, after_acts, item_results, 
 use Rattle.reachable.specs.Stays.{PassStays}
 use Rattle.reachable.proofs.OneCall.{replied-run, replied-identity}
 use Rattle.reachable.proofs.PassStays.{stays-run}
+use Rattle.reachable.proofs.Stops.{stop_answer, stop-answer}
 
 -- ---- the others, on the run alone
 
@@ -39,19 +37,6 @@ abbrev run_after : Run → Other → Run
 run_after r (trigger f out) = after_answer r (trigger_answer r f out)
 run_after r (clock_step ticks) = clocked_run r ticks
 run_after r (stop after) = cond (is_running r) (stopped r) r
-
-abbrev stop_answer : Run → Answer Command
-stop_answer r = cond (is_running r) (given Stop) (refused 9 0)
-
-stop-read : (after : List ℕ) → command_answer (stop_words after) ≡ given (taken Stop 5)
-stop-read after = sym (read-written [] after Stop tt tt)
-
-stop-answer : (β : Board) (after : List ℕ) → board_answer β (stop_words after) ≡ stop_answer β.run
-stop-answer β after = by_state (stop_words after) (status_of β) Stop 5 (stop-read after) ∙ go (is_running β.run)
-  where
-    go : (t : Bool) → cond (not t) (refused 9 0) (given Stop) ≡ cond {A = Answer Command} t (given Stop) (refused 9 0)
-    go true = refl
-    go false = refl
 
 stop-after : (β : Board) (after : List ℕ) → board_after β (stop_words after) ≡ with_run β (run_after β.run (stop after))
 unfolding with_run

@@ -18,6 +18,7 @@ pub mod Freshness
 pub mod Fresh
 pub mod FirstFrame
 pub mod RatesStay
+pub mod Stops
 pub mod Between
 pub mod BetweenCalls
 pub mod Why
