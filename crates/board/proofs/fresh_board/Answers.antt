@@ -1,6 +1,5 @@
 -- `board::fresh_board` meets its contract. Assumes nothing.
 use Rattle.board.specs.State.{fresh_board}
-use borrow.Author.Rules.{rules}
 use Rattle.board.proofs.fresh_board.Goals as goal
 
 pub returns : goal.returns

@@ -1,7 +1,6 @@
 -- `board::power_up` meets its contract. Assumes nothing.
 use borrow.Author.Tests.{le-leb, lt-leb}
 use Rattle.board.specs.State.{power_up_answer}
-use borrow.Author.Rules.{rules}
 use Rattle.board.proofs.power_up.Goals as goal
 
 pub returns-then-board_id-ge-ID_LIMIT : goal.returns-then-board_id-ge-ID_LIMIT

@@ -1,7 +1,6 @@
 -- `board::stored` meets its contract. Assumes nothing.
 use mathlib.Core.Path.{◌∙◌}
 use Rattle.board.proofs.Obeying.{block-copied}
-use borrow.Author.Rules.{rules}
 use Rattle.board.proofs.stored.Goals as goal
 
 pub returns : goal.returns

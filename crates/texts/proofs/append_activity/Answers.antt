@@ -1,10 +1,8 @@
 -- `texts::append_activity` meets its contract. Assumes nothing.
 use lib.Dec.{lit≤}
-use mathlib.Core.Path.{refl, ap}
+use mathlib.Core.Path.{ap}
 use Rattle.texts.specs.Texts.{activity_text}
 use Rattle.texts.proofs.Laws.{both, within}
-use borrow.Author.Rules.{rules}
-use native.Mathlib.Omega.{arith}
 use Rattle.texts.proofs.append_activity.Goals as goal
 
 pub returns-in-RunningInPass : goal.returns-in-RunningInPass

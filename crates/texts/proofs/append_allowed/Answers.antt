@@ -1,6 +1,6 @@
 -- `texts::append_allowed` meets its contract. Assumes nothing.
 use Prim.Native.Nat.{ℕ}
-use mathlib.Core.Path.{◌≡◌, refl, ap, ◌∙◌}
+use mathlib.Core.Path.{◌≡◌, ap, ◌∙◌}
 use mathlib.Core.List.{List, ◌∷◌}
 use lib.ListN.{take}
 use Rattle.explanations.specs.Explaining.{allowed_meaning}
@@ -8,7 +8,6 @@ use Rattle.explanations.specs.declared.Allowed.{Allowed}
 use Rattle.texts.specs.Characters.{ascii}
 use Rattle.texts.specs.Texts.{allowed_fields, spaced}
 use Rattle.texts.proofs.Laws.{both, within, spaced-words}
-use borrow.Author.Rules.{rules}
 use native.Mathlib.Omega.{arith}
 use Rattle.texts.proofs.append_allowed.Goals as goal
 

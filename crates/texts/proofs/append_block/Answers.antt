@@ -5,7 +5,6 @@ use mathlib.Core.Path.{◌≡◌, refl, sym, ap}
 use lib.ListN.{length, take}
 use Rattle.texts.specs.Texts.{hex_word, joined}
 use Rattle.texts.proofs.Laws.{both, one, within}
-use borrow.Author.Rules.{rules}
 use native.Mathlib.Omega.{arith}
 use Rattle.texts.proofs.append_block.Goals as goal
 

@@ -2,9 +2,6 @@ use Prim.Native.Nat.{◌≤◌, ◌-◌, ◌*◌}
 use lib.ListN.{take}
 use Rattle.texts.specs.Texts.{hex_byte, joined}
 use Rattle.texts.specs.CodeShape.{Appended}
-use Rattle.texts.proofs.Laws.{nothing, joined-more, joined-all}
-use borrow.Author.Rules.{rules}
-use native.Mathlib.Omega.{arith}
 use Rattle.texts.proofs.append_bytes.Given as goal
 
 -- `texts::append_bytes` meets its contract. Assumes nothing.

@@ -1,10 +1,8 @@
 -- `texts::append_command` meets its contract. Assumes nothing.
-use Rattle.texts.proofs.Laws.{both, within}
+use Rattle.texts.proofs.Laws.{within}
 use Rattle.texts.specs.Texts.{block_text, command_text}
 use lib.Dec.{lit≤}
-use mathlib.Core.Path.{refl, ap, ◌∙◌}
-use borrow.Author.Rules.{rules}
-use native.Mathlib.Omega.{arith}
+use mathlib.Core.Path.{ap, ◌∙◌}
 use Rattle.texts.proofs.append_command.Goals as goal
 
 pub returns-in-Static : goal.returns-in-Static

@@ -3,7 +3,6 @@ use Prim.Native.Nat.{◌≤◌}
 use mathlib.Core.Path.{sym, ◌∙◌}
 use Rattle.texts.specs.Texts.{decimal}
 use Rattle.texts.proofs.Laws.{twenty, decimal-digits, within}
-use borrow.Author.Rules.{rules}
 use native.Mathlib.Omega.{arith}
 use Rattle.texts.proofs.append_decimal.Goals as goal
 

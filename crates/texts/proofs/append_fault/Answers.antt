@@ -1,11 +1,10 @@
 -- `texts::append_fault` meets its contract. Assumes nothing.
 use Prim.Native.Nat.{ℕ}
-use mathlib.Core.Path.{◌≡◌, refl}
+use mathlib.Core.Path.{◌≡◌}
 use mathlib.Core.List.{List, ◌++◌, append_assoc}
 use Rattle.texts.specs.Characters.{ascii}
 use Rattle.texts.specs.Texts.{decimal}
 use Rattle.texts.proofs.Laws.{both, within}
-use borrow.Author.Rules.{rules}
 use native.Mathlib.Omega.{arith}
 use Rattle.texts.proofs.append_fault.Goals as goal
 

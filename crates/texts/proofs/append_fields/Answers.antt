@@ -3,15 +3,13 @@ use Prim.Native.Nat.{ℕ, ◌≤◌}
 use mathlib.Core.Path.{◌≡◌, refl, ap}
 use mathlib.Core.Bool.{Bool, true, false, cond}
 use mathlib.Core.List.{List, [], ◌∷◌}
-use lib.ListN.{length}
 use Rattle.crate_pass.specs.Crate.{says_done}
 use Rattle.crate_pass.specs.declared.Outcome.{Outcome}
 use Rattle.texts.specs.Characters.{ascii}
 use Rattle.texts.specs.Texts.{outcome_text, next_text, next_frame, served, spaced, fields_of, response_meaning}
 use Rattle.texts.specs.CodeShape.{Appended}
 use Rattle.texts.specs.declared.Response.{Response}
-use Rattle.texts.proofs.Laws.{both, within}
-use borrow.Author.Rules.{rules}
+use Rattle.texts.proofs.Laws.{within}
 use native.Mathlib.Omega.{arith}
 use Rattle.texts.proofs.append_fields.Goals as goal
 

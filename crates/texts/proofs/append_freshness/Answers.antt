@@ -1,10 +1,8 @@
 -- `texts::append_freshness` meets its contract. Assumes nothing.
 use lib.Dec.{lit≤}
-use mathlib.Core.Path.{refl, ap}
+use mathlib.Core.Path.{ap}
 use Rattle.texts.specs.Texts.{freshness_text}
 use Rattle.texts.proofs.Laws.{within}
-use borrow.Author.Rules.{rules}
-use native.Mathlib.Omega.{arith}
 use Rattle.texts.proofs.append_freshness.Goals as goal
 
 pub returns-in-UsedByRun : goal.returns-in-UsedByRun

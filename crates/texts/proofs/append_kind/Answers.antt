@@ -1,10 +1,8 @@
 -- `texts::append_kind` meets its contract. Assumes nothing.
 use lib.Dec.{lit≤}
-use mathlib.Core.Path.{refl, ap}
+use mathlib.Core.Path.{ap}
 use Rattle.texts.specs.Texts.{kind_text}
 use Rattle.texts.proofs.Laws.{within}
-use borrow.Author.Rules.{rules}
-use native.Mathlib.Omega.{arith}
 use Rattle.texts.proofs.append_kind.Goals as goal
 
 pub returns-in-Reprogramming : goal.returns-in-Reprogramming

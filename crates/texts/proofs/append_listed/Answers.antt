@@ -1,9 +1,6 @@
 -- `texts::append_listed` meets its contract. Assumes nothing.
-use Prim.Native.Nat.{◌≤◌, ◌-◌, ◌*◌}
-use lib.ListN.{take}
-use Rattle.texts.specs.Texts.{joined}
-use Rattle.texts.specs.CodeShape.{Appended, spaced_word}
-use Rattle.texts.proofs.Laws.{nothing, one, both, joined-more, joined-all}
+use Rattle.texts.specs.CodeShape.{spaced_word}
+use Rattle.texts.proofs.Laws.{one, both, joined-more}
 use borrow.Author.Rules.{rules}
 use native.Mathlib.Omega.{arith}
 use Rattle.texts.proofs.append_listed.Goals as goal

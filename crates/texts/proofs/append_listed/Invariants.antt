@@ -2,9 +2,6 @@ use Prim.Native.Nat.{◌≤◌, ◌-◌, ◌*◌}
 use lib.ListN.{take}
 use Rattle.texts.specs.Texts.{joined}
 use Rattle.texts.specs.CodeShape.{Appended, spaced_word}
-use Rattle.texts.proofs.Laws.{nothing, one, both, joined-more, joined-all}
-use borrow.Author.Rules.{rules}
-use native.Mathlib.Omega.{arith}
 use Rattle.texts.proofs.append_listed.Given as goal
 
 -- `texts::append_listed` meets its contract. Assumes nothing.

@@ -4,7 +4,6 @@ use mathlib.Core.Bool.{Bool}
 use lib.Seq.{take_all}
 use Rattle.texts.specs.Texts.{hex_byte, joined, next_text}
 use Rattle.texts.proofs.Laws.{within}
-use borrow.Author.Rules.{rules}
 use native.Mathlib.Omega.{arith}
 use Rattle.texts.proofs.append_next.Goals as goal
 

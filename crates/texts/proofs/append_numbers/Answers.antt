@@ -1,12 +1,6 @@
 -- `texts::append_numbers` meets its contract. Assumes nothing.
-use Prim.Native.Nat.{ℕ, ◌≤◌, ◌-◌, ◌*◌}
-use mathlib.Core.List.{List, map}
-use mathlib.Core.Path.{refl, sym, ap}
-use lib.ListN.{length, take}
-use lib.Seq.{take_all}
-use Rattle.texts.specs.Texts.{decimal, spaced}
-use Rattle.texts.specs.CodeShape.{Appended}
-use Rattle.texts.proofs.Laws.{nothing, within, spaced-more}
+use mathlib.Core.Path.{refl}
+use Rattle.texts.proofs.Laws.{within, spaced-more}
 use borrow.Author.Rules.{rules}
 use native.Mathlib.Omega.{arith}
 use Rattle.texts.proofs.append_numbers.Goals as goal

@@ -1,13 +1,8 @@
-use Prim.Native.Nat.{ℕ, ◌≤◌, ◌-◌, ◌*◌}
-use mathlib.Core.List.{List, map}
-use mathlib.Core.Path.{refl, sym, ap}
+use Prim.Native.Nat.{◌≤◌, ◌-◌, ◌*◌}
+use mathlib.Core.List.{map}
 use lib.ListN.{length, take}
-use lib.Seq.{take_all}
 use Rattle.texts.specs.Texts.{decimal, spaced}
 use Rattle.texts.specs.CodeShape.{Appended}
-use Rattle.texts.proofs.Laws.{nothing, within, spaced-more}
-use borrow.Author.Rules.{rules}
-use native.Mathlib.Omega.{arith}
 use Rattle.texts.proofs.append_numbers.Given as goal
 
 -- `texts::append_numbers` meets its contract. Assumes nothing.

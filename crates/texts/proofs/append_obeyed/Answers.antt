@@ -1,6 +1,5 @@
 -- `texts::append_obeyed` meets its contract. Assumes nothing.
 use Rattle.texts.proofs.Laws.{both, one}
-use borrow.Author.Rules.{rules}
 use Rattle.texts.proofs.append_obeyed.Goals as goal
 
 pub returns : goal.returns

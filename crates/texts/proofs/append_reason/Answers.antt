@@ -9,8 +9,6 @@ use Rattle.texts.specs.Characters.{ascii}
 use Rattle.texts.specs.Texts.{decimal, reason_fields, spaced, fields_of, explanation}
 use Rattle.texts.specs.CodeShape.{Appended}
 use Rattle.texts.proofs.Laws.{both, within, digit}
-use borrow.Author.Rules.{rules}
-use native.Mathlib.Omega.{arith}
 use Rattle.texts.proofs.append_reason.Goals as goal
 
 -- what was appended, with the number as characters, is what is printed of the reason

@@ -1,7 +1,6 @@
 -- `texts::append_with_decimal` meets its contract. Assumes nothing.
 use Rattle.texts.proofs.Laws.{both, within}
 use mathlib.Core.Path.{refl}
-use borrow.Author.Rules.{rules}
 use native.Mathlib.Omega.{arith}
 use Rattle.texts.proofs.append_with_decimal.Goals as goal
 

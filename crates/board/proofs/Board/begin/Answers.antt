@@ -1,6 +1,5 @@
 -- `board::Board::begin` meets its contract. Assumes nothing.
 use Rattle.board.proofs.Obeying.{begun-as}
-use borrow.Author.Rules.{rules}
 use Rattle.board.proofs.Board.begin.Goals as goal
 
 pub returns : goal.returns

@@ -3,7 +3,6 @@ use mathlib.Core.Path.{◌≡◌, sym, ◌∙◌}
 use mathlib.Core.Bool.{false}
 use Rattle.four_crates.specs.FourCrates.{in_pass}
 use Rattle.board.proofs.RatePass.{begins-refused, begins-given}
-use borrow.Author.Rules.{rules}
 use Rattle.board.proofs.Board.begin_rate_pass.Goals.{After-rates_begun}
 use Rattle.board.proofs.Board.begin_rate_pass.Goals as goal
 

@@ -1,8 +1,7 @@
 -- `board::Board::carry_out` meets its contract. Assumes nothing.
-use mathlib.Core.Path.{refl, ap}
+use mathlib.Core.Path.{ap}
 use Rattle.board.specs.State.{with_run}
-use Rattle.board.proofs.Obeying.{after-refusal, after-obeyed, after-pass, write-whole}
-use borrow.Author.Rules.{rules}
+use Rattle.board.proofs.Obeying.{after-obeyed}
 use Rattle.board.proofs.Board.carry_out.Goals as goal
 
 pub returns-in-Start : goal.returns-in-Start

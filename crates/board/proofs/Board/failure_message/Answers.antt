@@ -4,7 +4,6 @@ use Rattle.refusals.specs.declared.Refusal.TheVariants.{NotAcceptedNow}
 use Rattle.four_crates.specs.FourCrates.{record_meaning}
 use Rattle.blocks.proofs.Laws.{block-own}
 use Rattle.board.proofs.Sending.{failure-9, failure-refused, failure-found}
-use borrow.Author.Rules.{rules}
 use Rattle.board.proofs.Board.failure_message.Goals as goal
 
 pub returns-then-in_pass : goal.returns-then-in_pass

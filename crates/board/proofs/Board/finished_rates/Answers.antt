@@ -1,7 +1,6 @@
 -- `board::Board::finished_rates` meets its contract. Assumes nothing.
 use mathlib.Core.Path.{sym, ◌∙◌}
 use Rattle.board.proofs.RatePass.{other-rates, own-rates, rates-before}
-use borrow.Author.Rules.{rules}
 use Rattle.board.proofs.Board.finished_rates.Goals as goal
 
 pub returns-then-in_pass : goal.returns-then-in_pass

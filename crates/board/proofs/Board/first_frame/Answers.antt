@@ -2,7 +2,6 @@
 use Rattle.board.proofs.Serving.{fetched, fetch-refused}
 use Rattle.four_crates.specs.FourCrates.{first_meaning}
 use mathlib.Core.Path.{sym, ap, ◌∙◌}
-use borrow.Author.Rules.{rules}
 use Rattle.board.proofs.Board.first_frame.Goals as goal
 
 pub returns-in-Step : goal.returns-in-Step

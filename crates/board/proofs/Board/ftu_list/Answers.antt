@@ -3,7 +3,6 @@ use mathlib.Core.Path.{sym, ◌∙◌}
 use Rattle.refusals.specs.declared.Refusal.TheVariants.{NotAcceptedNow}
 use Rattle.blocks.proofs.Laws.{block-own, block-under}
 use Rattle.board.proofs.Sending.{list-9, list-clear}
-use borrow.Author.Rules.{rules}
 use Rattle.board.proofs.Board.ftu_list.Goals as goal
 
 pub returns-then-in_pass : goal.returns-then-in_pass

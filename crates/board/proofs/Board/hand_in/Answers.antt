@@ -2,7 +2,7 @@
 use Prim.Native.Nat.{ℕ, ◌<◌, ◌≤◌}
 use mathlib.Core.Path.{◌≡◌, refl, ap, ◌∙◌}
 use mathlib.Core.Bool.{Bool, true, false}
-use mathlib.Core.Logic.{◌⊎◌, inl, inr, ⊎_elim}
+use mathlib.Core.Logic.{◌⊎◌, inl, inr}
 use native.Mathlib.Omega.{arith}
 use lib.Dec.{ltb}
 use lib.ListN.{set}
@@ -10,7 +10,6 @@ use borrow.Author.Tests.{ltb-true, ltb-false}
 use Rattle.board.specs.State.{crate_at, with_crates}
 use Rattle.board.specs.SlowControl.{judged_at, Replies}
 use Rattle.board.proofs.Serving.{judged-at, replies-at}
-use borrow.Author.Rules.{rules}
 use Rattle.board.proofs.Board.hand_in.Goals as goal
 use Rattle.board.proofs.Board.hand_in.Goals.{After-serve-served, in-0, in-1, in-2, in_default}
 

@@ -1,6 +1,5 @@
 -- `board::Board::obey` meets its contract. Assumes nothing.
-use Rattle.board.proofs.Obeying.{block-whole, after-command}
-use borrow.Author.Rules.{rules}
+use Rattle.board.proofs.Obeying.{block-whole}
 use Rattle.board.proofs.Board.obey.Goals as goal
 
 pub carry_out-requires : goal.carry_out-requires

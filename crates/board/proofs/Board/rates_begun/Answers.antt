@@ -1,6 +1,5 @@
 -- `board::Board::rates_begun` meets its contract. Assumes nothing.
 use Rattle.board.proofs.RatePass.{rates-begun-as}
-use borrow.Author.Rules.{rules}
 use Rattle.board.proofs.Board.rates_begun.Goals as goal
 
 pub returns : goal.returns
