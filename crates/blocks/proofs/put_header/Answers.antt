@@ -12,7 +12,6 @@ use Rattle.blocks.proofs.Laws.{length-header, header-19, header-20, header-clear
 use native.Mathlib.Omega.{arith}
 use Rattle.blocks.proofs.put_header.Goals as goal
 
--- `blocks::put_header` meets its contract. Assumes nothing.
 pub returns-then-out-lt11 : goal.returns-then-out-lt11
 returns-then-out-lt11 c =
     let a = c.args in

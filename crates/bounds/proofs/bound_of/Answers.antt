@@ -3,7 +3,6 @@ use borrow.Author.Tests.{lt-ltb, le-ltb}
 use Rattle.bounds.specs.Bounds.{bound_of}
 use Rattle.bounds.proofs.bound_of.Goals as goal
 
--- `bounds::bound_of` meets its contract. Assumes nothing.
 pub returns-then-place-lt2 : goal.returns-then-place-lt2
 unfolding bound_of
 returns-then-place-lt2 c = simp (lt-ltb _ _ c.if-place-lt2.true)

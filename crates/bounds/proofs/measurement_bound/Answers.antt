@@ -3,7 +3,6 @@ use borrow.Author.Tests.{lt-ltb, le-ltb, eq-eqb, ne_eqb}
 use Rattle.bounds.specs.Bounds.{measurement_bound}
 use Rattle.bounds.proofs.measurement_bound.Goals as goal
 
--- `bounds::measurement_bound` meets its contract. Assumes nothing.
 pub returns-then-place-lt4 : goal.returns-then-place-lt4
 unfolding measurement_bound
 returns-then-place-lt4 c = simp (lt-ltb _ _ c.if-place-lt4.true)

@@ -3,7 +3,6 @@ use Rattle.commands.proofs.Lookup.{each-found, found, unknown}
 use Rattle.commands.proofs.Lookup.{unlisted-read, unlisted-write, unlisted-start, unlisted-stop, unlisted-ping, unlisted-reset}
 use Rattle.commands.proofs.listed_as.Goals as goal
 
--- `commands::listed_as` meets its contract. Assumes nothing.
 pub returns-in-1-parameter : goal.returns-in-1-parameter
 returns-in-1-parameter c = found _ _ _ (each-found _).0 c.in-1.is c.in-1-parameter.is
 

@@ -3,7 +3,6 @@ use borrow.Author.Tests.{lt-ltb, le-ltb}
 use Rattle.crate_pass.specs.Crate.{sent_at}
 use Rattle.crate_pass.proofs.sent_at.Goals as goal
 
--- `crate_pass::sent_at` meets its contract. Assumes nothing.
 pub returns-then-board-lt10 : goal.returns-then-board-lt10
 unfolding sent_at
 returns-then-board-lt10 c = rw (lt-ltb _ _ c.if-board-lt10.true)

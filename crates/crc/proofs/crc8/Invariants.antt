@@ -1,3 +1,4 @@
+-- `crc::crc8` meets its contract. The word stands for the bytes before i, from the start. Assumes nothing.
 use Prim.Native.Nat.{◌≤◌, ◌-◌}
 use mathlib.Core.Path.{◌≡◌}
 use lib.ListN.{length, drop}
@@ -5,7 +6,6 @@ use Rattle.crc.specs.Crc.{crc}
 use Rattle.crc.specs.CodeShape.{crc_word}
 use Rattle.crc.proofs.crc8.Given as goal
 
--- `crc::crc8` meets its contract. The word stands for the bytes before i, from the start. Assumes nothing.
 abbrev pub invariant-loop-i : goal.invariant-loop-i
 invariant-loop-i l = (l.i ≤ length l.bytes) × (crc (crc_word l.word) (drop l.i l.bytes) ≡ crc l.start l.bytes)
 

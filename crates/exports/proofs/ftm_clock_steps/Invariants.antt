@@ -1,3 +1,4 @@
+-- `exports::ftm_clock_steps` meets its contract. Assumes nothing.
 use Prim.Native.Nat.{◌+◌, ◌*◌, ◌-◌, ◌^◌, ◌<◌, ◌≤◌}
 use native.Mathlib.Omega.{arith}
 use mathlib.Core.Path.{◌≡◌, refl, sym, ap₂, ◌∙◌}
@@ -9,7 +10,6 @@ use Rattle.exports.proofs.Clock.{Made, none_made, one_more, all_made, steps-outp
 use borrow.Author.Rules.{rules}
 use Rattle.exports.proofs.ftm_clock_steps.Given as goal
 
--- `exports::ftm_clock_steps` meets its contract. Assumes nothing.
 abbrev pub invariant-loop-i : goal.invariant-loop-i
 invariant-loop-i l = (l.i ≤ length l.ticks) × (length l.ticks + 1 ≤ length l.initial.out) × (length l.out ≡ length l.initial.out) × (length l.initial.out * 8 < 2 ^ 63)
     × Made l.initial.board l.ticks l.initial.out l.i l.board l.out

@@ -7,7 +7,6 @@ use Rattle.exports.proofs.Static.{front_length, front_fits, static-unread, stati
 use borrow.Author.Rules.{rules}
 use Rattle.exports.proofs.ftm_static.Goals as goal
 
--- `exports::ftm_static` meets its contract. Assumes nothing.
 pub returns-then-block-ne436 : goal.returns-then-block-ne436
 returns-then-block-ne436 c = let a = c.args in static-6 a.block.now a.out.now c.if-block-ne436.true
 

@@ -1,3 +1,4 @@
+-- `exports::good_packets` meets its contract. Assumes nothing.
 use Prim.Native.Nat.{◌+◌, ◌*◌, ◌-◌, ◌≤◌}
 use mathlib.Core.Path.{◌≡◌}
 use lib.ListN.{drop}
@@ -7,7 +8,6 @@ use borrow.Author.Rules.{rules}
 use native.Mathlib.Omega.{arith}
 use Rattle.exports.proofs.good_packets.Given as goal
 
--- `exports::good_packets` meets its contract. Assumes nothing.
 abbrev pub invariant-loop-i : goal.invariant-loop-i
 invariant-loop-i l = (l.i ≤ l.n) × (l.good ≤ l.i) × (l.good + good_from (l.n - l.i) (drop (7 * l.i) l.bytes) ≡ good_from l.n l.bytes)
 

@@ -1,3 +1,4 @@
+-- `four_crates::entries_of` meets its contract. Assumes nothing.
 use Prim.Native.Nat.{◌≤◌, ◌-◌}
 use mathlib.Core.Path.{◌≡◌}
 use mathlib.Core.List.{◌++◌}
@@ -6,7 +7,6 @@ use Rattle.crate_pass.specs.Crate.{silent}
 use Rattle.four_crates.specs.FourCrates.{entries_of}
 use Rattle.four_crates.proofs.entries_of.Given as goal
 
--- `four_crates::entries_of` meets its contract. Assumes nothing.
 abbrev pub invariant-loop-k : goal.invariant-loop-k
 invariant-loop-k l = (l.k ≤ 40) × (l.entries ≡ take l.k (entries_of l.crates) ++ drop l.k (replicate 40 silent)) × (length l.entries ≡ 40)
 

@@ -3,7 +3,6 @@ use mathlib.Core.Path.{sym, ◌∙◌}
 use Rattle.four_crates.proofs.OneCrate.{first-11, first-none, first_counted, first-given}
 use Rattle.four_crates.proofs.first_on.Goals as goal
 
--- `four_crates::first_on` meets its contract. Assumes nothing.
 pub returns-then-index-gt3 : goal.returns-then-index-gt3
 returns-then-index-gt3 c = first-11 c.args.crates c.args.index c.if-index-gt3.true
 

@@ -2,7 +2,6 @@
 use Rattle.four_crates.proofs.OneCrate.{sent-11, sent-given}
 use Rattle.four_crates.proofs.sent_on.Goals as goal
 
--- `four_crates::sent_on` meets its contract. Assumes nothing.
 pub returns-then-index-gt3 : goal.returns-then-index-gt3
 returns-then-index-gt3 c = sent-11 c.args.crates _ c.if-index-gt3.true
 

@@ -3,7 +3,6 @@ use borrow.Author.Tests.{eq-eqb, ne_eqb}
 use Rattle.ftu_list.specs.List.{entry_words}
 use Rattle.ftu_list.proofs.entry_words.Goals as goal
 
--- `ftu_list::entry_words` meets its contract. Assumes nothing.
 pub returns-then-e-eq0 : goal.returns-then-e-eq0
 unfolding entry_words
 returns-then-e-eq0 c = simp (eq-eqb _ _ c.if-e-eq0.true)

@@ -8,7 +8,6 @@ use lib.ListN.{length-take}
 use native.Mathlib.Omega.{arith}
 use Rattle.replies.proofs.is_good.Goals as goal
 
--- `replies::is_good` meets its contract: a return of false names the condition that fails. Assumes nothing.
 pub returns-then-reply-ne28 : goal.returns-then-reply-ne28
 returns-then-reply-ne28 c = bad-length _ _ (omega arith)
 

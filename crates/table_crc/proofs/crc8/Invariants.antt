@@ -1,10 +1,10 @@
+-- `table_crc::crc8` meets its contract. The register is that after the bytes before i, from the start. Assumes nothing.
 use Prim.Native.Nat.{◌-◌}
 use mathlib.Core.Path.{◌≡◌}
 use lib.ListN.{length, drop}
 use Rattle.crc.specs.Crc.{crc}
 use Rattle.table_crc.proofs.crc8.Given as goal
 
--- `table_crc::crc8` meets its contract. The register is that after the bytes before i, from the start. Assumes nothing.
 abbrev pub invariant-loop-i : goal.invariant-loop-i
 invariant-loop-i l = crc l.register (drop l.i l.bytes) ≡ crc l.start l.bytes
 

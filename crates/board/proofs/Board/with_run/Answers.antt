@@ -3,7 +3,6 @@ use mathlib.Core.Path.{refl}
 use Rattle.board.specs.State.{with_run}
 use Rattle.board.proofs.Board.with_run.Goals as goal
 
--- `board::Board::with_run` meets its contract. Assumes nothing.
 pub returns : goal.returns
 unfolding with_run
 returns c = refl
