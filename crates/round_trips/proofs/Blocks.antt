@@ -1,20 +1,20 @@
 -- Reading a block that was written gives its header and its body back, for each of the four kinds, from the writer's own contract: for every
 -- header, body and lent output. And so do its bytes on the wire.
 -- Assumes nothing.
-use Prim.Native.Nat.{ℕ, ◌+◌, ◌%◌, ◌^◌, ◌<◌, ◌≤◌}
+use Prim.Native.Nat.{ℕ, ◌+◌, ◌^◌, ◌<◌, ◌≤◌}
 use mathlib.Core.Path.{◌≡◌, refl, sym, ap, ◌∙◌}
 use mathlib.Core.List.{List, [], ◌∷◌, ◌++◌, append-nil}
 use native.Mathlib.Nat.{mod-eq_of_lt}
 use native.Mathlib.Omega.{arith}
 use lib.ListN.{length, get_or, take, drop, length-append}
 use lib.Seq.{take_at, drop_at}
-use borrow.Author.Tests.{le-ltb, lt-ltb, eqb-true, not-false}
-use Rattle.refusals.specs.Tables.{given, Rule}
+use borrow.Author.Tests.{lt-ltb, eqb-true, not-false}
+use Rattle.refusals.specs.Tables.{Rule}
 use Rattle.refusals.specs.declared.Written.TheVariants.{Length}
 use Rattle.refusals.proofs.Tables.{Clear}
 use Rattle.refusals.proofs.Writing.{wrote-front}
 use Rattle.words.specs.Words.{words_in, bytes_of}
-use Rattle.numbers.specs.Numbers.{digits, number, id_limit}
+use Rattle.numbers.specs.Numbers.{digits, number}
 use Rattle.numbers.proofs.Numbers.{number_digits}
 use Rattle.words.proofs.Bytes.{Below, words_same}
 use Rattle.bounds.specs.Bounds.{bound_of, measurement_bound, lowest_above, RatesKept}
@@ -26,34 +26,10 @@ use Rattle.blocks.proofs.Laws.{block-length, block-clear, block-id}
 use Rattle.ftu_list.specs.List.{list_body}
 use Rattle.ftu_list.specs.declared.FtuList.{FtuList}
 use Rattle.round_trips.specs.Blocks.{as_sent, ReadsBack, DynamicBack}
-use Rattle.block_reader.specs.Reading.{body_length, place_above, header_in, block_answer, body_where}
+use Rattle.round_trips.proofs.AnyBlock.{read_back}
+use Rattle.block_reader.specs.Reading.{body_length, place_above}
 use Rattle.block_reader.specs.declared.Kind.{Kind}
 use Rattle.block_reader.specs.declared.Kind.TheVariants.{Static, Dynamic, FtuList as List', Failure}
-use Rattle.block_reader.proofs.Laws.{read-header}
-
--- the numbers that fit their words stand in them, and of the timestamp its lowest 48 bits
-header-back : (h : Header) (b : List ℕ) → h.board_id < 2 ^ 64 → h.trigger_counter < 2 ^ 32 → as_sent h ≡ header_in (header_words h ++ b)
-unfolding header_in header_words
-header-back h b id counter =
-    let whole-id : h.board_id % 2 ^ 64 ≡ h.board_id = omega arith in
-    let whole-counter : h.trigger_counter % 2 ^ 32 ≡ h.trigger_counter = omega arith in
-    let low-time : number 65536 (digits 65536 3 h.timestamp) ≡ (as_sent h).timestamp = number_digits 65536 (omega arith) 3 h.timestamp in
-    λ i. record {
-      board_id = sym (number_digits 65536 (omega arith) 4 h.board_id ∙ whole-id) i;
-      firmware_id = h.firmware_id;
-      trigger_counter = sym (number_digits 65536 (omega arith) 2 h.trigger_counter ∙ whole-counter) i;
-      timestamp = sym low-time i;
-    }
-
--- the words of a block whose body has the kind's length, and no word above its bound
-read_back : (kind : Kind) (h : Header) (b : List ℕ) → h.board_id < id_limit → h.trigger_counter < 2 ^ 32 → length b ≡ body_length kind
-    → body_length kind ≤ place_above kind b → ReadsBack kind (header_words h ++ b) (as_sent h) b
-unfolding header_words
-read_back kind h b id counter l free =
-    let n : length (header_words h ++ b) ≡ 11 + body_length kind = length-append (header_words h) b ∙ ap (λ (k : ℕ). 11 + k) l in
-    let e : block_answer kind (header_words h ++ b) ≡ given (as_sent h) =
-    sym (read-header kind (header_words h ++ b) n (le-ltb _ _ free) (as_sent h) (header-back h b (omega arith) counter) (omega arith) refl) in
-    record { header = e; body = ap (λ a. body_where a b) e }
 
 -- the first n words of the lent output, as the writer says that it wrote them
 module _ (own : List Rule) (kind : Kind) (h : Header) (b out : List ℕ) (n : ℕ) (after : List ℕ)

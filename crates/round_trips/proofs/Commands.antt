@@ -1,10 +1,9 @@
 -- Reading what was written gives the command back, its block, and the words after it.
 -- Assumes nothing.
-use Prim.Native.Nat.{ℕ, zero, suc, ◌+◌, ◌-◌, ◌≤◌, ◌^◌, ◌<◌}
+use Prim.Native.Nat.{ℕ, zero, suc, ◌+◌, ◌-◌, ◌≤◌}
 use mathlib.Core.Path.{◌≡◌, refl, sym, ap, ◌∙◌}
 use mathlib.Core.Bool.{false}
 use mathlib.Core.List.{List, [], ◌++◌, append-nil}
-use native.Mathlib.Nat.{mod-eq_of_lt}
 use native.Mathlib.Omega.{arith}
 use lib.ListN.{length, take, length-append}
 use lib.Seq.{take_at, drop_at}
@@ -14,8 +13,6 @@ use Rattle.refusals.specs.Writing.{writing_rules}
 use Rattle.refusals.specs.declared.Written.TheVariants.{Length}
 use Rattle.refusals.proofs.Tables.{Clear}
 use Rattle.refusals.proofs.Writing.{wrote-front, wrote-clear}
-use Rattle.numbers.specs.Numbers.{digits, number}
-use Rattle.numbers.proofs.Numbers.{number_digits}
 use Rattle.bounds.specs.Bounds.{bound_of}
 use Rattle.bounds.proofs.Lent.{lent_length, lent-within}
 use Rattle.commands.specs.Commands.{block_length, no_events, is_write, listed_as}
@@ -27,11 +24,8 @@ use Rattle.commands.specs.declared.Command.{Command}
 use Rattle.commands.specs.declared.Command.TheVariants.{Read, Write, Start, Stop, Ping, CrateReset}
 use Rattle.command_reader.proofs.Reading.{read-write, read-other}
 use Rattle.round_trips.specs.Commands.{ReadsBack}
+use Rattle.round_trips.proofs.Fields.{count-back}
 use Rattle.command_writer.specs.Writing.{block_for, command_words, write_rules, CountFits, WroteCommand}
-
--- X "in 2 words, high first" reads back
-count-back : (x : ℕ) → x < 2 ^ 32 → number 65536 (digits 65536 2 x) ≡ x
-count-back x f = number_digits 65536 (omega arith) 2 x ∙ mod-eq_of_lt f
 
 module _ (b rest : List ℕ) where
   -- the words of c, with others after them

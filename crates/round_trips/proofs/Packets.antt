@@ -21,54 +21,19 @@ use Rattle.packets.specs.declared.Packet.{Packet}
 use Rattle.packets.proofs.Laws.{within}
 use Rattle.packet_reader.specs.Reading.{is_odd, number_in, fields_in, packet_in, read_rules, packet_answer}
 use Rattle.packet_reader.proofs.Tables.{read-exactly}
+use Rattle.round_trips.proofs.Fields.{packet-back}
 
 -- ---- written, then read
 
-bit-lt : (t : Bool) → bit_of t < 2
-bit-lt true = omega arith
-bit-lt false = omega arith
-
-bit-odd : (t : Bool) (x : ℕ) → x % 2 ≡ bit_of t → is_odd x ≡ t
-bit-odd true x e = rw e
-bit-odd false x e = rw e
-
 module _ (x : ℕ) (f : Fields) (hx : x < 2 ^ 32) (hn : f.n ≤ 40) (hs : f.pulser_setting ≤ 15) where
-  packet-back : packet_in (packet_bytes x f) ≡ record { number = x; fields = f }
-  unfolding first_six
-  packet-back =
-      let e₁ = bit-lt f.external1 in
-      let e₂ = bit-lt f.external2 in
-      let ti = bit-lt f.tim_source in
-      let pe = bit-lt f.pedestal in
-      let l₁ = bit-lt f.lp1 in
-      let l₂ = bit-lt f.lp2 in
-      let t₁ = type1 f in
-      let t₂ = type2 f in
-      let number : x % 256 + 256 * (x / 256 % 256 + 256 * (x / 256 / 256 % 256 + 256 * (x / 256 / 256 / 256 % 256))) ≡ x = omega arith in
-      let n : t₁ / 4 ≡ f.n = omega arith in
-      let setting : t₂ / 8 % 16 ≡ f.pulser_setting = omega arith in
-      λ i. record {
-        number = number i;
-        fields = record {
-          n = n i;
-          external1 = bit-odd f.external1 t₁ (omega arith) i;
-          external2 = bit-odd f.external2 (t₁ / 2) (omega arith) i;
-          tim_source = bit-odd f.tim_source (t₂ / 128) (omega arith) i;
-          pulser_setting = setting i;
-          pedestal = bit-odd f.pedestal (t₂ / 4) (omega arith) i;
-          lp2 = bit-odd f.lp2 (t₂ / 2) (omega arith) i;
-          lp1 = bit-odd f.lp1 t₂ (omega arith) i;
-        };
-      }
-
   read-bytes : packet_answer (packet_bytes x f) ≡ given (record { number = x; fields = f })
   unfolding first_six read_rules
   read-bytes =
       let c = crc packet_start (first_six x f) in
       let sum : not (eqb c c) ≡ false = simp (eq-eqb c c refl) in
       let range : not (in_range (packet_in (packet_bytes x f)).fields) ≡ false =
-      ap (λ (p : Packet). not (in_range p.fields)) packet-back ∙ simp (le-leb _ _ hn, le-leb _ _ hs) in
-      (read-exactly (packet_bytes x f)).clear-only (refl, (sum, (range, tt))) ∙ ap given packet-back
+      ap (λ (p : Packet). not (in_range p.fields)) (packet-back x f hx hn hs) ∙ simp (le-leb _ _ hn, le-leb _ _ hs) in
+      (read-exactly (packet_bytes x f)).clear-only (refl, (sum, (range, tt))) ∙ ap given (packet-back x f hx hn hs)
 
 -- The first n bytes of the lent output, as a writer of a packet with any rows says that it wrote them, read as that packet, where its number has
 -- 32 bits and its fields are in range. (A board's trigger has more rows than the writer of packets, among them 15 too.)
