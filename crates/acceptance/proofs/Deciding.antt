@@ -5,18 +5,18 @@ use mathlib.Core.Path.{◌≡◌, sym, ap, ◌∙◌}
 use mathlib.Core.Bool.{false}
 use mathlib.Core.List.{List}
 use lib.ListN.{length}
+use Rattle.std.specs.Prelude.{Result, Err}
 use Rattle.refusals.specs.Refusals.{number_of, place_of}
-use Rattle.refusals.specs.Tables.{given, lowest, refusal_meaning}
+use Rattle.refusals.specs.Tables.{given, lowest, refusal_meaning, answer_of}
 use Rattle.refusals.specs.declared.Refusal.{Refusal}
 use Rattle.refusals.proofs.Tables.{Clear, Exactly, exactly, clear-more, clear-front, clear-back, given-clear, given-same, clear-given, refused-more}
 use Rattle.commands.specs.Commands.{block_length}
 use Rattle.commands.specs.declared.Command.{Command}
-use Rattle.command_reader.specs.Reading.{Taken, taken, read_rules, command_in, command_answer, used_of}
+use Rattle.command_reader.specs.declared.Taken.{Taken}
+use Rattle.command_reader.specs.Reading.{taken, read_rules, command_in, command_answer, used_of}
 use Rattle.command_reader.proofs.Used.{used-fits}
-use Rattle.acceptance.specs.Acceptance.{not_now, state_rules, command_rules, answer_meaning, decided, Decides}
+use Rattle.acceptance.specs.Acceptance.{not_now, state_rules, command_rules, decided, Decides}
 use Rattle.acceptance.specs.declared.Status.{Status}
-use Rattle.acceptance.specs.declared.CommandAnswer.{CommandAnswer}
-use Rattle.acceptance.specs.declared.CommandAnswer.TheVariants.{Refused}
 
 module _ (w : List ℕ) (s : Status) where
   -- 1 to 10, each exactly when its row applies
@@ -25,7 +25,7 @@ module _ (w : List ℕ) (s : Status) where
   command-exactly = exactly (command_rules w s) (command_in w) tt
 
   -- the words refuse the command
-  pub decides-refused : (r : Refusal) → refusal_meaning r ≡ command_answer w → Decides w s (record { answer = Refused r; used = 0 })
+  pub decides-refused : (r : Refusal) → refusal_meaning r ≡ command_answer w → Decides w s (record { answer = Err r; used = 0 })
   unfolding decided command_answer
   decides-refused r e =
       record {
@@ -45,7 +45,7 @@ module _ (w : List ℕ) (s : Status) where
         clear-more (read_rules w) (state_rules (command_in w) s) (command_in w) (given-clear (read_rules w) _ (taken c n) e)
         ∙ ap (λ (d : Command). lowest (state_rules d s) d) named
 
-    pub decides-state : (a : CommandAnswer) → answer_meaning a ≡ lowest (state_rules c s) c → Decides w s (record { answer = a; used = n })
+    pub decides-state : (a : Result Command Refusal) → answer_of a ≡ lowest (state_rules c s) c → Decides w s (record { answer = a; used = n })
     decides-state a q = record { answer = q ∙ sym by_state; used = sym (ap used_of e) }
 
   -- a command that is obeyed is the one that the words name, and no row applies

@@ -1,12 +1,10 @@
 -- 01, Command words: the column "accepted when", and the refusals 9 and 10.
 use Rattle.std.specs.Prelude.{ℕ, ◌≡◌, Bool, false, not, ◌&&◌, List, [], ◌∷◌, ◌++◌}
-use Rattle.refusals.specs.Tables.{Answer, given, Rule, rule, lowest, refusal_meaning}
+use Rattle.refusals.specs.Tables.{Answer, Rule, rule, lowest, answer_of}
 use Rattle.commands.specs.declared.Command.{Command}
 use Rattle.commands.specs.declared.Command.TheVariants.{Read, Write, Start, Stop, Ping, CrateReset}
 use Rattle.command_reader.specs.Reading.{read_rules, command_in, command_answer, used_of}
 use Rattle.acceptance.specs.declared.Status.{Status}
-use Rattle.acceptance.specs.declared.CommandAnswer.{CommandAnswer}
-use Rattle.acceptance.specs.declared.CommandAnswer.TheVariants.{Obeyed, Refused}
 use Rattle.acceptance.specs.declared.Decision.{Decision}
 
 -- the column "accepted when", where it is not so; of a start, without "and fresh"
@@ -35,15 +33,10 @@ state_rules c s = rule 9 (not_now c s) ∷ rule 10 (not_fresh c s) ∷ []
 abbrev pub command_rules : List ℕ → Status → List Rule
 command_rules w s = read_rules w ++ state_rules (command_in w) s
 
--- an answer as 01 has it: the command that is obeyed says what to read, which crate to reset, and that a run or a pass begins
-abbrev pub answer_meaning : CommandAnswer → Answer Command
-answer_meaning (Obeyed c) = given c
-answer_meaning (Refused r) = refusal_meaning r
-
 unfoldable pub decided : List ℕ → Status → Answer Command
 decided w s = lowest (command_rules w s) (command_in w)
 
 -- The decision d. "1 to 8 use no words of a command; 9 and 10 use the whole command": the words used are those that reading the command uses
 pub record Decides (w : List ℕ) (s : Status) (d : Decision) : Type 0 where
-  pub answer : answer_meaning d.answer ≡ decided w s
+  pub answer : answer_of d.answer ≡ decided w s
   pub used : d.used ≡ used_of (command_answer w)

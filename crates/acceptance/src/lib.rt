@@ -2,10 +2,10 @@
 #![tactic(auto)]
 
 ghost use Rattle.std.specs.Prelude.{◌≡◌};
-ghost use Rattle.refusals.specs.Tables.{lowest};
-ghost use Rattle.acceptance.specs.Acceptance.{not_now, not_fresh, state_rules, answer_meaning, Decides};
+ghost use Rattle.refusals.specs.Tables.{lowest, answer_of};
+ghost use Rattle.acceptance.specs.Acceptance.{not_now, not_fresh, state_rules, Decides};
 
-use command_reader::{CommandRead, read_command};
+use command_reader::read_command;
 use commands::Command;
 use refusals::Refusal;
 
@@ -17,21 +17,14 @@ pub struct Status {
     pub fresh: bool,
 }
 
-// What a command gets: what is done, or a refusal.
-#[derive(Clone, Copy)]
-pub enum CommandAnswer {
-    Obeyed(Command),
-    Refused(Refusal),
-}
-
 // An answer, with the words that the command used.
 #[derive(Clone, Copy)]
 pub struct Decision {
-    pub answer: CommandAnswer,
+    pub answer: Result<Command, Refusal>,
     pub used: usize,
 }
 
-// Whether a command is not accepted in this state.
+// Whether a command is not accepted in this state: a row for each command, as 01 has them.
 fn not_now(c: Command, s: Status) -> bool
     ensures { result ≡ not_now c s }
 {
@@ -60,16 +53,16 @@ fn not_fresh(c: Command, s: Status) -> bool
 }
 
 // What a command gets whose words are right.
-fn accept(c: Command, s: Status) -> CommandAnswer
-    ensures { answer_meaning result ≡ lowest (state_rules c s) c }
+fn accept(c: Command, s: Status) -> Result<Command, Refusal>
+    ensures { answer_of result ≡ lowest (state_rules c s) c }
 {
     if not_now(c, s) {
-        return CommandAnswer::Refused(Refusal::NotAcceptedNow);
+        return Err(Refusal::NotAcceptedNow);
     }
     if not_fresh(c, s) {
-        return CommandAnswer::Refused(Refusal::NotFresh);
+        return Err(Refusal::NotFresh);
     }
-    CommandAnswer::Obeyed(c)
+    Ok(c)
 }
 
 // What the first command of the words gets. A command that its words refuse uses none of them, any other all of its own.
@@ -77,12 +70,12 @@ pub fn decide(words: &[u16], s: Status) -> Decision
     ensures { Decides words.now s result }
 {
     match read_command(words) {
-        CommandRead::Accepted(c, used) => Decision {
-            answer: accept(c, s),
-            used,
+        Ok(taken) => Decision {
+            answer: accept(taken.command, s),
+            used: taken.used,
         },
-        CommandRead::Refused(r) => Decision {
-            answer: CommandAnswer::Refused(r),
+        Err(r) => Decision {
+            answer: Err(r),
             used: 0,
         },
     }

@@ -3,9 +3,8 @@
 use Prim.Native.Nat.{ℕ, ◌<◌}
 use mathlib.Core.Path.{◌≡◌, refl, sym, ap, ap₂, ◌∙◌}
 use mathlib.Core.List.{List, [], ◌∷◌, ◌++◌, map, append-nil}
-use Rattle.refusals.specs.Tables.{Answer}
-use Rattle.refusals.specs.Writing.{written_meaning}
-use Rattle.refusals.specs.declared.Written.{Written}
+use Rattle.std.specs.Prelude.{Result}
+use Rattle.refusals.specs.Tables.{Answer, answer_of}
 use Rattle.board.specs.SlowControl.{Fetches}
 use Rattle.board.specs.declared.Board.{Board}
 use Rattle.cells.specs.Order.{only, ordered}
@@ -19,6 +18,7 @@ use Rattle.any_order.specs.Calls.{Began, obeyed, begun, BegunBy, board_begun_by}
 use Rattle.any_order.specs.Calls.{Returned, replied, fetched, ServedItem, Keeps, board_then, Chained, last_board, items_of, answer_seen, seen}
 use Rattle.any_order.specs.Calls.{Sent, AnyOrderOfCalls}
 use Rattle.any_order.proofs.AnyOrder.{demand-3}
+use Rattle.refusals.specs.declared.Refusal.{Refusal}
 
 -- ---- one item
 
@@ -101,12 +101,12 @@ module _ (β : Board) (g : Begin) (start : Board) (begins : start ≡ start_of �
   board-of ss p = chained-final start ss p ∙ ap (λ (γ : Board). final γ (items_of ss)) begins
 
   -- a fetch on the board that the command returned
-  fetched-of : (c : ℕ) (lent : List ℕ) (r : Written) (after : List ℕ) → Fetches start c lent r after
-      → fetched_by (first_given (written_meaning r)) after ≡ first_fetched β g c lent
+  fetched-of : (c : ℕ) (lent : List ℕ) (r : Result ℕ Refusal) (after : List ℕ) → Fetches start c lent r after
+      → fetched_by (first_given (answer_of r)) after ≡ first_fetched β g c lent
   unfolding fetched_in only
   fetched-of c lent r after w =
       let one : ServedItem = record { item = (c, (fetch, lent)); returned = fetched r; bytes = after } in
-      sym (append-nil (fetched_by (first_given (written_meaning r)) after))
+      sym (append-nil (fetched_by (first_given (answer_of r)) after))
       ∙ ap fetched_in (sym (only-take seen_crate c (seen one) [] refl) ∙ seen-on c (one ∷ []) (w, tt))
 
   -- the frames

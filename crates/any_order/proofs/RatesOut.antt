@@ -5,7 +5,7 @@ use mathlib.Core.Path.{◌≡◌, refl, sym, ap, ap₂, ◌∙◌, subst}
 use mathlib.Core.List.{List, ◌++◌, append_assoc}
 use mathlib.Core.Bool.{Bool, true, false, not, cond, ◌&&◌}
 use native.Mathlib.Omega.{arith}
-use Rattle.refusals.specs.declared.Written.{Written}
+use Rattle.std.specs.Prelude.{Result}
 use Rattle.blocks.specs.Blocks.{temperature_rules, dynamic_body, WroteBlock}
 use Rattle.blocks.specs.declared.Header.{Header}
 use Rattle.crate_pass.specs.Crate.{is_rate_pass}
@@ -23,6 +23,7 @@ use Rattle.any_order.proofs.Runs.{run-rates}
 use Rattle.any_order.proofs.Begun.{none-under-way, crate_begun, runs-begun}
 use Rattle.any_order.proofs.OneCrate.{final-is, crate-is, alone}
 use Rattle.any_order.proofs.SentOut.{in-pass, header_is}
+use Rattle.refusals.specs.declared.Refusal.{Refusal}
 
 -- ---- of four crates
 
@@ -93,7 +94,7 @@ on-time-begun β (write w) cs = refl
 on-time-begun β (ping w) cs = refl
 on-time-begun β rates cs = refl
 
-pub rates-given : (β : Board) (g : Begin) (a : Accepted β g) (xs : List Item) (t out : List ℕ) (r : Written) (after : List ℕ)
+pub rates-given : (β : Board) (g : Begin) (a : Accepted β g) (xs : List Item) (t out : List ℕ) (r : Result ℕ Refusal) (after : List ℕ)
     → SendsDynamic (final (start_of β g) xs) t out r after
     → WroteBlock (temperature_rules t) 487 (header_of β) (dynamic_body β.run.on_time t (rates_after β g xs)) out r after
 rates-given β g a xs t out r after w =

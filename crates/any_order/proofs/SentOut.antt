@@ -8,9 +8,9 @@ use native.Mathlib.Omega.{arith}
 use lib.Dec.{leb}
 use lib.ListN.{length, get_or, length-append, length-map}
 use borrow.Author.Tests.{leb-false}
+use Rattle.std.specs.Prelude.{Result}
 use Rattle.refusals.specs.Tables.{Rule, rule}
 use Rattle.refusals.proofs.Tables.{Clear}
-use Rattle.refusals.specs.declared.Written.{Written}
 use Rattle.blocks.specs.Blocks.{failure_body, WroteBlock}
 use Rattle.blocks.proofs.Laws.{block-body}
 use Rattle.blocks.specs.declared.Header.{Header}
@@ -36,6 +36,7 @@ use Rattle.any_order.proofs.Begun.{crate_begun, runs-begun}
 use Rattle.any_order.proofs.Records.{record_frame, records-are}
 use Rattle.any_order.proofs.Lists.{length-end, list-body}
 use Rattle.any_order.proofs.OneCrate.{final-is, crate-is, done-is, failed-is, rising-is, boards-are, block-is}
+use Rattle.refusals.specs.declared.Refusal.{Refusal}
 
 -- a frame is outstanding on some crate exactly where not all four are done
 some-outstanding : (d₀ d₁ d₂ d₃ : Bool) → (not d₀ || not d₁ || not d₂ || not d₃) ≡ not (d₀ && d₁ && d₂ && d₃)
@@ -176,7 +177,7 @@ module _ (β : Board) (g : Begin) (a : Accepted β g) (xs : List Item) where
   body_is : (n : ℕ) → Clear (failure_rules (last β g a xs) n) → failure_body_of (last β g a xs) n ≡ failure_body 3 (get_or (failures β g xs) n [])
   body_is n c = ap (failure_body 3) (frame_is n (leb-false _ _ c.1.0))
 
-  pub records-given : (n : ℕ) (out : List ℕ) (r : Written) (after : List ℕ) → SendsFailure (last β g a xs) n out r after
+  pub records-given : (n : ℕ) (out : List ℕ) (r : Result ℕ Refusal) (after : List ℕ) → SendsFailure (last β g a xs) n out r after
       → WroteBlock (record_rules β g n xs) 29 (header_of β) (failure_body 3 (get_or (failures β g xs) n [])) out r after
   records-given n out r after w =
       let own = failure_rules (last β g a xs) n in
@@ -185,7 +186,7 @@ module _ (β : Board) (g : Begin) (a : Accepted β g) (xs : List Item) where
       subst (λ (rules : List Rule). WroteBlock rules 29 (header_of β) body out r after) (record-rules β g a xs n)
       (subst (λ (h : Header). WroteBlock own 29 h body out r after) (header_is β g a xs) same)
 
-  pub list-given : (out : List ℕ) (r : Written) (after : List ℕ) → SendsList (last β g a xs) out r after
+  pub list-given : (out : List ℕ) (r : Result ℕ Refusal) (after : List ℕ) → SendsList (last β g a xs) out r after
       → WroteBlock (during_pass β g xs ∷ []) 249 (header_of β) (list_after β g xs) out r after
   list-given out r after w =
       let own = list_rules (last β g a xs) in

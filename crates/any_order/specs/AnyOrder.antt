@@ -1,10 +1,9 @@
 -- 01, "Demand 3 is a single claim about the whole sequence, of any length and the empty one too"; 02, d, "Demand 3 covers the bytes too"; and 02, i,
 -- "Demand 3 holds for a rate pass": its definitions in the order of the paragraph, and the claim (`AnyOrder`).
-use Rattle.std.specs.Prelude.{ℕ, suc, ◌+◌, ◌*◌, ◌<◌, ◌≤◌, ◌≡◌, Bool, true, false, cond, not, ◌&&◌, ◌||◌, ltb, leb}
+use Rattle.std.specs.Prelude.{ℕ, suc, ◌+◌, ◌*◌, ◌<◌, ◌≤◌, ◌≡◌, Bool, true, false, cond, not, ◌&&◌, ◌||◌, ltb, leb, Result as CallResult}
 use Rattle.std.specs.Prelude.{List, [], ◌∷◌, ◌++◌, map, length, get_or, take, drop, replicate}
 use Rattle.refusals.specs.Tables.{Answer, given, refused, Rule, rule}
 use Rattle.refusals.specs.Writing.{output_after, writing}
-use Rattle.refusals.specs.declared.Written.{Written}
 use Rattle.commands.specs.declared.Command.TheVariants.{Write, Ping}
 use Rattle.blocks.specs.Blocks.{temperature_rules, dynamic_body, failure_body, WroteBlock}
 use Rattle.ftu_list.specs.List.{list_body}
@@ -27,6 +26,7 @@ use Rattle.board.specs.declared.Board.{Board}
 use Rattle.cells.specs.Order.{only, from, ordered}
 use Rattle.any_order.specs.Steps.{Step, step, steps, served_from, Event, judged, Request, hand_in, fetch, Lending, words_from, how_many, rates_from}
 use Rattle.any_order.specs.Steps.{Pass, begun, Given, outcome, first_frame, Result, refusal, first, none, react}
+use Rattle.refusals.specs.declared.Refusal.{Refusal}
 
 -- ---- items
 
@@ -413,19 +413,19 @@ pub record AnyOrder (β : Board) (g : Begin) (xs : List Item) : Type 0 where
   pub above : from result_crate 4 (results_after β g xs) ≡ refused_all (from item_crate 4 xs)
   -- "records and, in a ping, list entries": what `failure_message` answers for each ordinal, and `ftu_list`, with any output lent, is by the table and
   -- with the words that the steps give
-  pub records : (n : ℕ) (out : List ℕ) (r : Written) (after : List ℕ)
+  pub records : (n : ℕ) (out : List ℕ) (r : CallResult ℕ Refusal) (after : List ℕ)
       → SendsFailure (board_at_end β g xs) n out r after
       → WroteBlock (record_rules β g n xs) 29 (header_of β) (failure_body 3 (get_or (failures β g xs) n [])) out r after
   pub records-most : length (failures β g xs) ≤ 40
   -- the records themselves, which `failure_message` does not give during the pass, by the frame that each has
   pub records-kept : record_frames (board_at_end β g xs) ≡ failures β g xs
-  pub list : (out : List ℕ) (r : Written) (after : List ℕ)
+  pub list : (out : List ℕ) (r : CallResult ℕ Refusal) (after : List ℕ)
       → SendsList (board_at_end β g xs) out r after
       → WroteBlock (during_pass β g xs ∷ []) 249 (header_of β) (list_after β g xs) out r after
   -- the list itself, which `ftu_list` does not give during the pass
   pub list-kept : list_body (list_of (board_at_end β g xs)) ≡ list_after β g xs
   -- 02, i, "each crate's rates": what `dynamic_block` answers, with any temperatures and any output lent, and during a rate pass what the crates hold
-  pub rates : (t out : List ℕ) (r : Written) (after : List ℕ)
+  pub rates : (t out : List ℕ) (r : CallResult ℕ Refusal) (after : List ℕ)
       → SendsDynamic (board_at_end β g xs) t out r after
       → WroteBlock (temperature_rules t) 487 (header_of β) (dynamic_body β.run.on_time t (rates_after β g xs)) out r after
   pub rates-kept : four.rates_of (board_at_end β g xs).crates ≡ rates_held β g xs

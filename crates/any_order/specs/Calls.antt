@@ -1,15 +1,11 @@
 -- Demand 3 over the contracts of the public calls alone: what any results that keep them have to do with the claim (`AnyOrderOfCalls`).
-use Rattle.std.specs.Prelude.{ℕ, ◌<◌, ◌≤◌, ◌≡◌, List, [], ◌∷◌, ◌++◌, map, length}
-use Rattle.refusals.specs.Tables.{Answer, given}
-use Rattle.refusals.specs.Writing.{written_meaning}
-use Rattle.refusals.specs.declared.Written.{Written}
+use Rattle.std.specs.Prelude.{ℕ, ◌<◌, ◌≤◌, ◌≡◌, List, [], ◌∷◌, ◌++◌, map, length, Result}
+use Rattle.refusals.specs.Tables.{Answer, given, answer_of}
 use Rattle.commands.specs.declared.Command.TheVariants.{Write, Ping}
-use Rattle.acceptance.specs.Acceptance.{answer_meaning}
 use Rattle.steps.specs.declared.Event.TheVariants.{Reply, TimeUp}
-use Rattle.crate_pass.specs.Crate.{reply_meaning}
 use Rattle.board.specs.Commands.{Obeys}
 use Rattle.board.specs.SlowControl.{judged_at, Replies, Fetches}
-use Rattle.board.specs.RatePass.{begun_meaning, Begins}
+use Rattle.board.specs.RatePass.{Begins}
 use Rattle.board.specs.declared.Board.{Board}
 use Rattle.board.specs.declared.CommandResult.{CommandResult}
 use Rattle.board.specs.declared.BeginResult.{BeginResult}
@@ -18,6 +14,7 @@ use Rattle.cells.specs.Order.{only, ordered}
 use Rattle.any_order.specs.Steps.{Event, reply, time_up, Request, hand_in, fetch, Given}
 use Rattle.any_order.specs.AnyOrder.{Item, Begin, write, ping, rates, outcome_given, first_given, results_after, board_at_end, frames_on}
 use Rattle.any_order.specs.AnyOrder.{Seen, seen_crate, seen_of, fetched_by, handed_out_in, AnyOrder}
+use Rattle.refusals.specs.declared.Refusal.{Refusal}
 
 -- ---- the begin
 
@@ -28,9 +25,9 @@ pub data Began : Type 0 where
 
 -- the write or the ping was accepted, or the begin of the rate pass
 abbrev pub BegunBy : Board → Begin → Began → Type 0
-BegunBy β (write w) (obeyed r) = Obeys β w r × (answer_meaning r.answer ≡ given Write)
-BegunBy β (ping w) (obeyed r) = Obeys β w r × (answer_meaning r.answer ≡ given Ping)
-BegunBy β rates (begun r) = Begins β r × (begun_meaning r.answer ≡ given tt)
+BegunBy β (write w) (obeyed r) = Obeys β w r × (answer_of r.answer ≡ given Write)
+BegunBy β (ping w) (obeyed r) = Obeys β w r × (answer_of r.answer ≡ given Ping)
+BegunBy β rates (begun r) = Begins β r × (answer_of r.answer ≡ given tt)
 BegunBy β (write w) (begun r) = ⊥
 BegunBy β (ping w) (begun r) = ⊥
 BegunBy β rates (obeyed r) = ⊥
@@ -45,7 +42,7 @@ board_begun_by (begun r) = r.board
 -- what `hand_in` returned, or `first_frame`
 pub data Returned : Type 0 where
   replied : ReplyResult → Returned
-  fetched : Written → Returned
+  fetched : Result ℕ Refusal → Returned
 
 -- one item, as a caller serves it, with what was returned and what the lent bytes then held
 pub record ServedItem : Type 0 where
@@ -84,8 +81,8 @@ items_of ss = map (λ (s : ServedItem). s.item) ss
 
 -- an item with its answer, as 01 has it, and its bytes
 abbrev pub answer_seen : Returned → Answer Given
-answer_seen (replied r) = outcome_given (reply_meaning r.answer)
-answer_seen (fetched r) = first_given (written_meaning r)
+answer_seen (replied r) = outcome_given (answer_of r.answer)
+answer_seen (fetched r) = first_given (answer_of r)
 
 abbrev pub seen : ServedItem → Seen
 seen s = (s.item, (answer_seen s.returned, s.bytes))
@@ -96,8 +93,8 @@ seen s = (s.item, (answer_seen s.returned, s.bytes))
 -- those that its items for c hand out
 abbrev pub Sent : ℕ → Board → List ServedItem → List (List ℕ) → Type 0
 Sent c start ss frames =
-    (lent : List ℕ) (r : Written) (after : List ℕ) → 28 ≤ length lent → Fetches start c lent r after
-    → fetched_by (first_given (written_meaning r)) after ++ handed_out_in (only seen_crate c (map seen ss)) ≡ frames
+    (lent : List ℕ) (r : Result ℕ Refusal) (after : List ℕ) → 28 ≤ length lent → Fetches start c lent r after
+    → fetched_by (first_given (answer_of r)) after ++ handed_out_in (only seen_crate c (map seen ss)) ≡ frames
 
 -- ---- the claim, of any board, an accepted write, ping or begin of a rate pass on it, and two series of the same items, the second in the order of the crates
 

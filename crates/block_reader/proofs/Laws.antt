@@ -10,9 +10,8 @@ use borrow.Author.Tests.{lt-ltb, le-ltb, le-leb, lt-leb, eq-eqb, ne_eqb}
 use Rattle.refusals.specs.Tables.{given, refused, lowest}
 use Rattle.numbers.specs.Numbers.{id_limit}
 use Rattle.bounds.specs.Bounds.{bound_of, measurement_bound, lowest_above, checked_meaning, bounds_answer}
-use Rattle.bounds.specs.declared.BoundsChecked.{BoundsChecked}
-use Rattle.bounds.specs.declared.BoundsChecked.TheVariants.{Within, Above}
-use Rattle.bounds.proofs.Checked.{row-above, checked-above, checked-within}
+use Rattle.std.specs.Prelude.{Ok}
+use Rattle.bounds.proofs.Checked.{Checked, above, row-above, checked-above, checked-within}
 use Rattle.blocks.specs.declared.Header.{Header}
 use Rattle.block_reader.specs.Reading.{body_length, body_above, header_in, read_rules, block_answer}
 use Rattle.block_reader.specs.declared.Kind.{Kind}
@@ -34,28 +33,28 @@ module _ (body : List ℕ) where
   static-body l = rw l
 
   -- a dynamic body: three words of on-time, and the check of the measurements after them found r
-  module _ (l : length body ≡ 487) (r : BoundsChecked) (e : checked_meaning r ≡ bounds_answer measurement_bound (drop 3 body)) where
+  module _ (l : length body ≡ 487) (r : Checked) (e : checked_meaning r ≡ bounds_answer measurement_bound (drop 3 body)) where
     rest : length (drop 3 body) ≡ 484
     rest = rw length-drop (omega arith)
 
-    pub dynamic-above : (p : ℕ) → r ≡ Above p → (p < 484) × (checked_meaning (Above (3 + p)) ≡ lowest (body_above Dynamic body ∷ []) tt)
+    pub dynamic-above : (p : ℕ) → r ≡ above p → (p < 484) × (checked_meaning (above (3 + p)) ≡ lowest (body_above Dynamic body ∷ []) tt)
     dynamic-above p q =
         let a = checked-above measurement_bound (drop 3 body) r e p q in
         let below : p < 484 = rw rest at a.1 in
         let more : 3 + lowest_above measurement_bound 0 (drop 3 body) < 487 = let f = a.0 in omega arith in
         (below, rw a.0 (simp (lt-ltb _ _ more)))
 
-    pub dynamic-within : r ≡ Within → checked_meaning Within ≡ lowest (body_above Dynamic body ∷ []) tt
+    pub dynamic-within : r ≡ Ok tt → checked_meaning (Ok tt) ≡ lowest (body_above Dynamic body ∷ []) tt
     dynamic-within q =
         let a = checked-within measurement_bound (drop 3 body) r e q in
         let more : 487 ≤ 3 + lowest_above measurement_bound 0 (drop 3 body) = let f = rest in omega arith in
         simp (le-ltb _ _ more)
 
   -- the other kinds have no bounds
-  pub list-body : length body ≡ 249 → checked_meaning Within ≡ lowest (body_above FtuList body ∷ []) tt
+  pub list-body : length body ≡ 249 → checked_meaning (Ok tt) ≡ lowest (body_above FtuList body ∷ []) tt
   list-body l = rw l
 
-  pub failure-body : length body ≡ 29 → checked_meaning Within ≡ lowest (body_above Failure body ∷ []) tt
+  pub failure-body : length body ≡ 29 → checked_meaning (Ok tt) ≡ lowest (body_above Failure body ∷ []) tt
   failure-body l = rw l
 
 -- ---- the reader
@@ -67,7 +66,7 @@ module _ (kind : Kind) (w : List ℕ) where
 
   module _ (l : length w ≡ 11 + body_length kind) where
     -- the check of the body found a word above its bound
-    pub read-8 : (r : BoundsChecked) → checked_meaning r ≡ lowest (body_above kind (drop 11 w) ∷ []) tt → (p : ℕ) → r ≡ Above p
+    pub read-8 : (r : Checked) → checked_meaning r ≡ lowest (body_above kind (drop 11 w) ∷ []) tt → (p : ℕ) → r ≡ above p
         → refused 8 p ≡ block_answer kind w
     unfolding block_answer read_rules
     read-8 r e p q = let a = row-above (body_above kind (drop 11 w)) r e p q in rw (sym a.2) (simp (eq-eqb _ _ l, a.0))

@@ -2,15 +2,13 @@
 -- body as a part of the caller's words. It checks length, static and dynamic bounds, board ID and spare."
 use Rattle.std.specs.Prelude.{ℕ, ◌+◌, ◌≡◌, not, ◌||◌, List, [], ◌∷◌, ltb, leb, eqb, length, get_or, drop}
 use Rattle.std.specs.Borrow.{Bor}
-use Rattle.refusals.specs.Tables.{Answer, given, refused, Rule, rule, rule_at, lowest, refusal_meaning}
+use Rattle.refusals.specs.Tables.{Answer, given, refused, Rule, rule, rule_at, lowest, answer_of}
 use Rattle.numbers.specs.Numbers.{number, id_limit}
 use Rattle.words.specs.Parts.{PartOf}
 use Rattle.bounds.specs.Bounds.{bound_of, measurement_bound, lowest_above}
 use Rattle.blocks.specs.declared.Header.{Header}
 use Rattle.block_reader.specs.declared.Kind.{Kind}
 use Rattle.block_reader.specs.declared.Kind.TheVariants.{Static, Dynamic, FtuList, Failure}
-use Rattle.block_reader.specs.declared.BlockRead.{BlockRead}
-use Rattle.block_reader.specs.declared.BlockRead.TheVariants.{Read, Refused}
 use Rattle.block_reader.specs.declared.ReadBlock.{ReadBlock}
 
 -- "static: 436 words"; dynamic: "on-time in three, then 484 words"; "FTU list, 249 words"; "failure message, 29 words"
@@ -50,11 +48,6 @@ read_rules kind w =
     ∷ rule 20 (leb id_limit (header_in w).board_id || not (eqb (get_or w 10 0) 0))
     ∷ []
 
--- what a reader answers, as 01 has it
-abbrev pub read_meaning : BlockRead → Answer Header
-read_meaning (Read h) = given h
-read_meaning (Refused r) = refusal_meaning r
-
 unfoldable pub block_answer : Kind → List ℕ → Answer Header
 block_answer kind w = lowest (read_rules kind w) (header_in w)
 
@@ -68,5 +61,5 @@ body_of kind w = body_where (block_answer kind w) (drop 11 w)
 
 -- what a reader hands back of the words w: the answer, and the body "as a part of the caller's words"
 pub record ReadsBlock (kind : Kind) (w : Bor (List ℕ)) (r : ReadBlock) : Type 0 where
-  pub answer : read_meaning r.answer ≡ block_answer kind w.now
+  pub answer : answer_of r.answer ≡ block_answer kind w.now
   pub body : PartOf w 11 (body_of kind w.now) r.body

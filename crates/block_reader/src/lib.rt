@@ -2,13 +2,13 @@
 #![tactic(auto)]
 
 ghost use Rattle.std.specs.Prelude.{◌≡◌, [], ◌∷◌, length, drop};
-ghost use Rattle.refusals.specs.Tables.{lowest};
+ghost use Rattle.refusals.specs.Tables.{lowest, answer_of};
 ghost use Rattle.words.specs.Parts.{PartOf};
 ghost use Rattle.bounds.specs.Bounds.{checked_meaning};
-ghost use Rattle.block_reader.specs.Reading.{body_length, body_above, header_in, read_meaning, block_answer, body_where, ReadsBlock};
+ghost use Rattle.block_reader.specs.Reading.{body_length, body_above, header_in, block_answer, body_where, ReadsBlock};
 
 use blocks::Header;
-use bounds::{Bounded, BoundsChecked, check_bounds};
+use bounds::{Bounded, WordAboveBound, check_bounds};
 use numbers::{ID_LIMIT, number32, number48, number64};
 use refusals::Refusal;
 use words::{part, word_at};
@@ -19,13 +19,6 @@ pub enum Kind {
     Dynamic,
     FtuList,
     Failure,
-}
-
-// What reading finds: the header of a block that is right, or a refusal.
-#[derive(Clone, Copy)]
-pub enum BlockRead {
-    Read(Header),
-    Refused(Refusal),
 }
 
 impl Kind {
@@ -43,18 +36,18 @@ impl Kind {
 }
 
 // Checks a body against its bounds. The measurements of a dynamic one stand after three words of on-time.
-fn check_body(kind: Kind, body: &[u16]) -> BoundsChecked
+fn check_body(kind: Kind, body: &[u16]) -> Result<(), WordAboveBound>
     requires { length body.now ≡ body_length kind }
     ensures { checked_meaning result ≡ lowest (body_above kind body.now ∷ []) tt }
 {
     match kind {
         Kind::Static => check_bounds(Bounded::Configuration, body),
         Kind::Dynamic => match check_bounds(Bounded::Measurements, &body[3..]) {
-            BoundsChecked::Within => BoundsChecked::Within,
-            BoundsChecked::Above(place) => BoundsChecked::Above(3 + place),
+            Ok(()) => Ok(()),
+            Err(e) => Err(WordAboveBound { place: 3 + e.place }),
         },
-        Kind::FtuList => BoundsChecked::Within,
-        Kind::Failure => BoundsChecked::Within,
+        Kind::FtuList => Ok(()),
+        Kind::Failure => Ok(()),
     }
 }
 
@@ -76,41 +69,38 @@ fn header_in(words: &[u16]) -> Header
 }
 
 // Reads a block of a kind.
-pub fn read_block(kind: Kind, words: &[u16]) -> BlockRead
-    ensures { read_meaning result ≡ block_answer kind words.now }
+pub fn read_block(kind: Kind, words: &[u16]) -> Result<Header, Refusal>
+    ensures { answer_of result ≡ block_answer kind words.now }
 {
     let length = kind.body_length();
     if words.len() != 11 + length {
-        return BlockRead::Refused(Refusal::WrongLength);
+        return Err(Refusal::WrongLength);
     }
-    match check_body(kind, &words[11..]) {
-        BoundsChecked::Within => {}
-        BoundsChecked::Above(place) => return BlockRead::Refused(Refusal::AboveBound(place)),
-    }
+    check_body(kind, &words[11..])?;
     let header = header_in(words);
     if ID_LIMIT <= header.board_id {
-        return BlockRead::Refused(Refusal::WrongHeader);
+        return Err(Refusal::WrongHeader);
     }
     if words[10] != 0 {
-        return BlockRead::Refused(Refusal::WrongHeader);
+        return Err(Refusal::WrongHeader);
     }
-    BlockRead::Read(header)
+    Ok(header)
 }
 
 // The body of a block that got the answer, as the part of the words after the header; no words where it is refused.
-pub fn body_after(answer: BlockRead, words: &[u16]) -> &[u16]
-    ensures { PartOf words.entry 11 (body_where (read_meaning answer) (drop 11 words.now)) result }
+pub fn body_after(answer: Result<Header, Refusal>, words: &[u16]) -> &[u16]
+    ensures { PartOf words.entry 11 (body_where (answer_of answer) (drop 11 words.now)) result }
 {
     match answer {
-        BlockRead::Read(_) => part(words, 11, words.len()),
-        BlockRead::Refused(_) => part(words, 11, 11),
+        Ok(_) => part(words, 11, words.len()),
+        Err(_) => part(words, 11, 11),
     }
 }
 
 // A block that is read: the answer, and the body as a part of the caller's words.
 #[derive(Clone, Copy)]
 pub struct ReadBlock<'a> {
-    pub answer: BlockRead,
+    pub answer: Result<Header, Refusal>,
     // No words where the block is refused.
     pub body: &'a [u16],
 }

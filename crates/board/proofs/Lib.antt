@@ -6,4 +6,3 @@ pub mod Sending
 pub mod Tables
 pub mod Answers
 pub mod NothingLost
-pub mod Injective

@@ -5,42 +5,42 @@ use mathlib.Core.Path.{◌≡◌, refl, sym, ap, ◌∙◌}
 use mathlib.Core.Logic.{◌⊎◌, inl, inr, ⊎_elim}
 use mathlib.Core.List.{List}
 use native.Mathlib.Omega.{arith}
-use Rattle.refusals.specs.Tables.{Answer, given, refused, lowest}
-use Rattle.refusals.specs.Writing.{written_meaning}
-use Rattle.refusals.specs.declared.Written.{Written}
+use Rattle.std.specs.Prelude.{Result}
+use Rattle.refusals.specs.Tables.{Answer, given, refused, lowest, answer_of}
 use Rattle.refusals.proofs.Tables.{refused-more, refused-applies}
 use Rattle.refusals.proofs.Writing.{refused-keeps}
 use Rattle.packets.specs.declared.Fields.{Fields}
 use Rattle.commands.specs.Commands.{block_length}
 use Rattle.commands.specs.declared.Command.{Command}
-use Rattle.command_reader.specs.Reading.{Taken, read_rules, command_in, command_answer, used_of, block_of}
+use Rattle.command_reader.specs.declared.Taken.{Taken}
+use Rattle.command_reader.specs.Reading.{read_rules, command_in, command_answer, used_of, block_of}
 use Rattle.command_reader.proofs.Tables.{accepted}
 use Rattle.command_reader.proofs.Used.{used-is}
-use Rattle.acceptance.specs.Acceptance.{state_rules, answer_meaning, decided}
+use Rattle.acceptance.specs.Acceptance.{state_rules, decided}
 use Rattle.acceptance.proofs.Deciding.{by_state}
 use Rattle.run.specs.Run.{trigger_answer, after_answer}
 use Rattle.steps.specs.declared.Judged.{Judged}
-use Rattle.crate_pass.specs.Crate.{reply_meaning}
 use Rattle.board.proofs.Answers.{applies-between}
 use Rattle.board.proofs.Serving.{board-refused, bytes-refused}
 use Rattle.board.specs.State.{status_of, with_run}
 use Rattle.board.specs.Commands.{board_answer, after_command, board_after, Obeys, after_trigger_on, TriggersOn}
 use Rattle.board.specs.SlowControl.{reply_answer, Replies, Fetches}
-use Rattle.board.specs.RatePass.{begun_meaning, after_begin, Begins}
+use Rattle.board.specs.RatePass.{after_begin, Begins}
 use Rattle.board.specs.declared.BeginResult.{BeginResult}
 use Rattle.board.specs.SentOut.{SendsStatic, SendsDynamic, SendsList, SendsFailure}
 use Rattle.board.specs.declared.Board.{Board}
 use Rattle.board.specs.declared.CommandResult.{CommandResult}
 use Rattle.board.specs.declared.TriggerResult.{TriggerResult}
 use Rattle.board.specs.declared.ReplyResult.{ReplyResult}
+use Rattle.refusals.specs.declared.Refusal.{Refusal}
 
 -- what a writer does, from the lent output to its answer and to what the output then holds
 abbrev pub Writer : Type 1
-Writer = List ℕ → Written → List ℕ → Type 0
+Writer = List ℕ → (Result ℕ Refusal) → List ℕ → Type 0
 
 -- where it refuses it leaves the lent output as it was
 abbrev pub KeepsOutput : Writer → Type 0
-KeepsOutput writer = (out : List ℕ) (r : Written) (after : List ℕ) → writer out r after → (n p : ℕ) → written_meaning r ≡ refused n p → after ≡ out
+KeepsOutput writer = (out : List ℕ) (r : Result ℕ Refusal) (after : List ℕ) → writer out r after → (n p : ℕ) → answer_of r ≡ refused n p → after ≡ out
 
 -- ---- the next state, and the words that a command uses
 
@@ -84,16 +84,16 @@ module _ (β : Board) (n p : ℕ) where
 -- ---- what a refused call returns, and what it leaves in lent memory
 
 pub record NothingLost (β : Board) : Type 0 where
-  pub command : (w : List ℕ) (r : CommandResult) → Obeys β w r → (n p : ℕ) → answer_meaning r.answer ≡ refused n p
+  pub command : (w : List ℕ) (r : CommandResult) → Obeys β w r → (n p : ℕ) → answer_of r.answer ≡ refused n p
       → (r.board ≡ β) × (n ≤ 8 → r.used ≡ 0) × (9 ≤ n → r.used ≡ 5 + block_length (command_in w))
-  pub trigger : (f : Fields) (out after : List ℕ) (t : TriggerResult) → TriggersOn β f out t after → (n p : ℕ) → written_meaning t.answer ≡ refused n p
+  pub trigger : (f : Fields) (out after : List ℕ) (t : TriggerResult) → TriggersOn β f out t after → (n p : ℕ) → answer_of t.answer ≡ refused n p
       → (t.board ≡ β) × (after ≡ out)
   -- a reply or a time-up
   pub reply : (i : ℕ) (h : Judged) (lent after : List ℕ) (r : ReplyResult) → Replies β i h lent r after → (n p : ℕ)
-      → reply_meaning r.answer ≡ refused n p
+      → answer_of r.answer ≡ refused n p
       → (r.board ≡ β) × (after ≡ lent)
   -- the begin of a rate pass
-  pub begin : (r : BeginResult) → Begins β r → (n p : ℕ) → begun_meaning r.answer ≡ refused n p → r.board ≡ β
+  pub begin : (r : BeginResult) → Begins β r → (n p : ℕ) → answer_of r.answer ≡ refused n p → r.board ≡ β
   -- the first frame, and the four blocks
   pub frame : (i : ℕ) → KeepsOutput (Fetches β i)
   pub static : KeepsOutput (SendsStatic β)

@@ -9,7 +9,8 @@ use lib.ListN.{length, take, drop, replicate}
 use lib.Seq.{take_all}
 use types.Run.{OneOf, miss}
 use denote.Enum.Declared.{tag_of}
-use Rattle.refusals.specs.Tables.{given}
+use Rattle.std.specs.Prelude.{Result, Ok, Err}
+use Rattle.refusals.specs.Tables.{given, answer_of}
 use Rattle.words.specs.Words.{copied}
 use Rattle.words.proofs.Laws.{copied-whole}
 use Rattle.commands.specs.declared.Command.{Command}
@@ -17,9 +18,6 @@ use Rattle.commands.specs.declared.Command.TheVariants.{Read, Write, Start, Stop
 use Rattle.commands.specs.Commands.{is_write}
 use Rattle.commands.specs.contracts.Command.{the_type}
 use Rattle.commands.proofs.Each.{is-a-write}
-use Rattle.acceptance.specs.Acceptance.{answer_meaning}
-use Rattle.acceptance.specs.declared.CommandAnswer.{CommandAnswer}
-use Rattle.acceptance.specs.declared.CommandAnswer.TheVariants.{Obeyed, Refused}
 use Rattle.refusals.specs.declared.Refusal.{Refusal}
 use Rattle.run.specs.Run.{refreshed}
 use Rattle.run.specs.declared.Run.{Run}
@@ -55,33 +53,33 @@ pass-begun β block Command.Ping o = refl
 pass-begun β block (CrateReset c) o = absurd (miss (1 ∷ 4 ∷ []) 5 tt o)
 
 -- the board β after the answer a to a command whose block is b: a refusal, or the command c
-module _ (β : Board) (b : List ℕ) (a : CommandAnswer) where
-  pub after-refusal : (r : Refusal) → a ≡ Refused r → β ≡ after_command β b (answer_meaning a)
-  after-refusal r q = ap (λ (x : CommandAnswer). after_command β b (answer_meaning x)) (sym q)
+module _ (β : Board) (b : List ℕ) (a : Result Command Refusal) where
+  pub after-refusal : (r : Refusal) → a ≡ Err r → β ≡ after_command β b (answer_of a)
+  after-refusal r q = ap (λ (x : Result Command Refusal). after_command β b (answer_of x)) (sym q)
 
-  pub after-obeyed : (c d : Command) → a ≡ Obeyed c → c ≡ d → (after : Board) → after ≡ carried_out β b d → after ≡ after_command β b (answer_meaning a)
-  after-obeyed c d q k after f = f ∙ ap (λ (x : CommandAnswer). after_command β b (answer_meaning x)) (sym (q ∙ ap Obeyed k))
+  pub after-obeyed : (c d : Command) → a ≡ Ok c → c ≡ d → (after : Board) → after ≡ carried_out β b d → after ≡ after_command β b (answer_of a)
+  after-obeyed c d q k after f = f ∙ ap (λ (x : Result Command Refusal). after_command β b (answer_of x)) (sym (q ∙ ap Ok k))
 
   -- where it begins a pass, t telling which
-  pub after-pass : (c : Command) → a ≡ Obeyed c → BeginsPass c → (t : Bool) → t ≡ is_write c → (after : Board) → after ≡ cond t (written β b) (pinged β)
-      → after ≡ after_command β b (answer_meaning a)
+  pub after-pass : (c : Command) → a ≡ Ok c → BeginsPass c → (t : Bool) → t ≡ is_write c → (after : Board) → after ≡ cond t (written β b) (pinged β)
+      → after ≡ after_command β b (answer_of a)
   after-pass c q o t k after f =
       after-obeyed c c q refl after (f ∙ ap (λ (s : Bool). cond s (written β b) (pinged β)) k ∙ pass-begun β b c o)
 
   -- a write has its block
-  pub write-whole : (answer_meaning a ≡ given Write → length b ≡ 436) → (c : Command) → a ≡ Obeyed c → (t : Bool) → t ≡ is_write c → t ≡ true → length b ≡ 436
-  write-whole h c q t f k = h (ap answer_meaning q ∙ ap given (is-a-write c (sym f ∙ k)))
+  pub write-whole : (answer_of a ≡ given Write → length b ≡ 436) → (c : Command) → a ≡ Ok c → (t : Bool) → t ≡ is_write c → t ≡ true → length b ≡ 436
+  write-whole h c q t f k = h (ap answer_of q ∙ ap given (is-a-write c (sym f ∙ k)))
 
 -- the answer a to the first command of the words w, which used n of them, and the block b that the reader hands back
-module _ (β : Board) (w : List ℕ) (a : CommandAnswer) (e : answer_meaning a ≡ board_answer β w) (n : ℕ) (u : n ≡ used_of (command_answer w))
+module _ (β : Board) (w : List ℕ) (a : Result Command Refusal) (e : answer_of a ≡ board_answer β w) (n : ℕ) (u : n ≡ used_of (command_answer w))
     (b : List ℕ) (p : b ≡ block_before n w) where
   block-is : b ≡ block_of w
   block-is = p ∙ ap (λ (k : ℕ). block_before k w) u
 
-  pub block-whole : answer_meaning a ≡ given Write → length b ≡ 436
+  pub block-whole : answer_of a ≡ given Write → length b ≡ 436
   block-whole q = ap length block-is ∙ length-block w _ (obeyed-read w (status_of β) Write (sym e ∙ q))
 
-  pub after-command : (after : Board) → after ≡ after_command β b (answer_meaning a) → after ≡ board_after β w
+  pub after-command : (after : Board) → after ≡ after_command β b (answer_of a) → after ≡ board_after β w
   after-command after f = f ∙ ap₂ (after_command β) block-is e
 
 -- the parts of a board on which a write or a ping began a pass

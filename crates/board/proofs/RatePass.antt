@@ -4,6 +4,7 @@ use Prim.Native.Nat.{ℕ}
 use mathlib.Core.Path.{◌≡◌, refl, sym, ap, ◌∙◌}
 use mathlib.Core.Bool.{Bool, true, false, cond, ◌&&◌}
 use mathlib.Core.List.{List}
+use Rattle.std.specs.Prelude.{Ok, Err}
 use Rattle.refusals.specs.Tables.{given, refused}
 use Rattle.refusals.specs.declared.Refusal.TheVariants.{NotAcceptedNow}
 use Rattle.crate_pass.specs.Crate.{is_rate_pass}
@@ -13,7 +14,6 @@ use Rattle.four_crates.specs.FourCrates.{in_pass, begun_all, rates_of}
 use Rattle.board.specs.State.{active_words, finished_rates}
 use Rattle.board.specs.RatePass.{rates_begun, begin_answer, after_begin, Begins}
 use Rattle.board.specs.declared.Board.{Board}
-use Rattle.board.specs.declared.PassBegun.TheVariants.{Begun, Refused}
 
 module _ (β : Board) where
   -- the last pass begun is another, or none is under way: the crates' own
@@ -49,10 +49,10 @@ module _ (β : Board) where
   unfolding begin_answer
   begin-given e = rw e
 
-  pub begins-refused : in_pass β.crates ≡ true → Begins β (record { board = β; answer = Refused NotAcceptedNow })
+  pub begins-refused : in_pass β.crates ≡ true → Begins β (record { board = β; answer = Err NotAcceptedNow })
   begins-refused e = record { answer = sym (begin-refused e); board = sym (ap (after_begin β) (begin-refused e)) }
 
-  pub begins-given : in_pass β.crates ≡ false → (after : Board) → after ≡ rates_begun β → Begins β (record { board = after; answer = Begun })
+  pub begins-given : in_pass β.crates ≡ false → (after : Board) → after ≡ rates_begun β → Begins β (record { board = after; answer = Ok tt })
   begins-given e after q = record { answer = sym (begin-given e); board = q ∙ sym (ap (after_begin β) (begin-given e)) }
 
   -- its parts

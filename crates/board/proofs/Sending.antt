@@ -4,11 +4,10 @@ use Prim.Native.Nat.{ℕ}
 use mathlib.Core.Path.{◌≡◌, refl, sym, ap, ◌∙◌}
 use mathlib.Core.Bool.{true, false}
 use mathlib.Core.List.{List, [], ◌∷◌}
+use Rattle.std.specs.Prelude.{Result, Err}
 use Rattle.refusals.specs.Refusals.{number_of, place_of}
 use Rattle.refusals.specs.Tables.{given, refused, lowest, refusal_meaning}
 use Rattle.refusals.specs.declared.Refusal.{Refusal}
-use Rattle.refusals.specs.declared.Written.{Written}
-use Rattle.refusals.specs.declared.Written.TheVariants.{Refused}
 use Rattle.refusals.proofs.Tables.{Clear, given-clear, given-same, refused-any}
 use Rattle.blocks.specs.Blocks.{failure_body, WroteBlock}
 use Rattle.blocks.specs.declared.Header.{Header}
@@ -31,7 +30,7 @@ module _ (β : Board) where
 
     module _ (e : in_pass β.crates ≡ false) where
       -- there is no such record
-      pub failure-refused : (r : Refusal) → refusal_meaning r ≡ record_answer β.crates n → (out : List ℕ) → SendsFailure β n out (Refused r) out
+      pub failure-refused : (r : Refusal) → refusal_meaning r ≡ record_answer β.crates n → (out : List ℕ) → SendsFailure β n out (Err r) out
       unfolding record_answer
       failure-refused r q out =
           let rows = no_such_record β.crates n ∷ [] in
@@ -39,7 +38,7 @@ module _ (β : Board) where
 
       -- the message of the record f is written under the rows 9 and 18, neither of which applies
       pub failure-found : (f : Failure) → given f ≡ record_answer β.crates n → (h : Header) → h ≡ header_of β
-          → (frame out after : List ℕ) (r : Written) → frame ≡ failed_frame β f
+          → (frame out after : List ℕ) (r : Result ℕ Refusal) → frame ≡ failed_frame β f
           → WroteBlock [] 29 h (failure_body 3 frame) out r after → SendsFailure β n out r after
       unfolding record_answer
       failure-found f q h eh frame out after r ef w =

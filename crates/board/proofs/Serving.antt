@@ -6,12 +6,11 @@ use mathlib.Core.Logic.{◌⊎◌, inl, inr}
 use mathlib.Core.List.{List, []}
 use lib.ListN.{set}
 use lib.Seq.{set-get_or}
+use Rattle.std.specs.Prelude.{Result, Err}
 use Rattle.refusals.specs.Refusals.{number_of, place_of}
 use Rattle.refusals.specs.Tables.{Answer, given, refused, lowest, refusal_meaning}
 use Rattle.refusals.specs.Writing.{output_after, Wrote}
 use Rattle.refusals.specs.declared.Refusal.{Refusal}
-use Rattle.refusals.specs.declared.Written.{Written}
-use Rattle.refusals.specs.declared.Written.TheVariants.{Refused}
 use Rattle.refusals.proofs.Tables.{given-clear, given-same, refused-any}
 use Rattle.refusals.proofs.Writing.{wrote-refused, wrote-under}
 use Rattle.configuration.specs.Configuration.{active_word}
@@ -43,7 +42,7 @@ module _ (β : Board) (i : ℕ) where
     frame-of = ap (λ (s : ℕ × ℕ). step_frame β.block i s.0 s.1) (sym same_step)
 
     -- it is written under the rows 11 and 12, neither of which applies
-    pub fetched : (frame out after : List ℕ) (r : Written) → frame ≡ step_frame β.block i b code
+    pub fetched : (frame out after : List ℕ) (r : Result ℕ Refusal) → frame ≡ step_frame β.block i b code
         → Wrote [] frame out r after → Fetches β i out r after
     unfolding first_answer
     fetched frame out after r q w =
@@ -56,7 +55,7 @@ module _ (β : Board) (i : ℕ) where
     unfolding first_answer
     refuses a = refused-any (fetch_rules β i) _ a (number_of r) (place_of r) (sym e)
 
-    pub fetch-refused : (out : List ℕ) → Fetches β i out (Refused r) out
+    pub fetch-refused : (out : List ℕ) → Fetches β i out (Err r) out
     fetch-refused out = wrote-refused (fetch_rules β i) (frame_at β i) out r (refuses 0)
 
   -- ---- a reply or a time-up: one on a crate up to 3 is that crate's to answer, and changes it alone

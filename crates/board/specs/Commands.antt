@@ -1,11 +1,11 @@
 -- 01, Command words, and Trigger packets: commands and triggers on a board.
 use Rattle.std.specs.Prelude.{ℕ, ◌≡◌, List}
-use Rattle.refusals.specs.Tables.{Answer, given, refused}
+use Rattle.refusals.specs.Tables.{Answer, given, refused, answer_of}
 use Rattle.packets.specs.declared.Fields.{Fields}
 use Rattle.commands.specs.declared.Command.{Command}
 use Rattle.commands.specs.declared.Command.TheVariants.{Read, Write, Start, Stop, Ping, CrateReset}
 use Rattle.command_reader.specs.Reading.{command_answer, used_of, block_of}
-use Rattle.acceptance.specs.Acceptance.{answer_meaning, decided}
+use Rattle.acceptance.specs.Acceptance.{decided}
 use Rattle.run.specs.Run.{started, stopped, refreshed, after_crate_reset, trigger_answer, after_answer, clocked_run, Gives}
 use Rattle.crate_pass.specs.declared.PassKind.{PassKind}
 use Rattle.crate_pass.specs.declared.PassKind.TheVariants.{Reprogramming}
@@ -66,7 +66,7 @@ board_after β w = after_command β (block_of w) (board_answer β w)
 
 -- the board answered r, and used the words that reading the command uses
 pub record Obeys (β : Board) (w : List ℕ) (r : CommandResult) : Type 0 where
-  pub answer : answer_meaning r.answer ≡ board_answer β w
+  pub answer : answer_of r.answer ≡ board_answer β w
   pub used : r.used ≡ used_of (command_answer w)
   pub board : r.board ≡ board_after β w
 

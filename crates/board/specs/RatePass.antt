@@ -1,12 +1,10 @@
 -- 02, i: "Add a rate pass over the active boards with code 5". How it begins; its replies and time-ups are those of every pass.
 use Rattle.std.specs.Prelude.{◌≡◌, List, [], ◌∷◌}
-use Rattle.refusals.specs.Tables.{Answer, given, refused, Rule, rule, lowest, refusal_meaning}
+use Rattle.refusals.specs.Tables.{Answer, given, refused, Rule, rule, lowest, answer_of}
 use Rattle.crate_pass.specs.declared.PassKind.TheVariants.{Rates}
 use Rattle.four_crates.specs.FourCrates.{in_pass, begun_all}
 use Rattle.board.specs.State.{active_words, finished_rates}
 use Rattle.board.specs.declared.Board.{Board}
-use Rattle.board.specs.declared.PassBegun.{PassBegun}
-use Rattle.board.specs.declared.PassBegun.TheVariants.{Begun, Refused}
 use Rattle.board.specs.declared.BeginResult.{BeginResult}
 
 -- "It may begin while idle or running"; "beginning a pass during another gets 9"
@@ -26,10 +24,6 @@ rates_begun β =
       crates = begun_all Rates (active_words β.block) β.crates;
     }
 
-abbrev pub begun_meaning : PassBegun → Answer Unit
-begun_meaning Begun = given tt
-begun_meaning (Refused r) = refusal_meaning r
-
 unfoldable pub begin_answer : Board → Answer Unit
 begin_answer β = lowest (begin_rules β) tt
 
@@ -43,5 +37,5 @@ board_begun β = after_begin β (begin_answer β)
 
 -- the board answered r to the begin of a rate pass
 pub record Begins (β : Board) (r : BeginResult) : Type 0 where
-  pub answer : begun_meaning r.answer ≡ begin_answer β
+  pub answer : answer_of r.answer ≡ begin_answer β
   pub board : r.board ≡ board_begun β

@@ -1,7 +1,6 @@
 -- 01, Blocks sent out, and 02, i: the four blocks that a board sends.
-use Rattle.std.specs.Prelude.{ℕ, ◌/◌, ◌%◌, List, [], ◌∷◌}
+use Rattle.std.specs.Prelude.{ℕ, ◌/◌, ◌%◌, List, [], ◌∷◌, Result}
 use Rattle.refusals.specs.Tables.{Rule, rule}
-use Rattle.refusals.specs.declared.Written.{Written}
 use Rattle.blocks.specs.Blocks.{dynamic_body, failure_body, WroteBlock, WroteStatic, WroteDynamic}
 use Rattle.blocks.specs.declared.Header.{Header}
 use Rattle.ftu_list.specs.List.{list_body}
@@ -11,6 +10,7 @@ use Rattle.four_crates.specs.FourCrates.{in_pass, entries_of, record_at, no_such
 use Rattle.four_crates.specs.declared.Failure.{Failure}
 use Rattle.board.specs.State.{finished_rates}
 use Rattle.board.specs.declared.Board.{Board}
+use Rattle.refusals.specs.declared.Refusal.{Refusal}
 
 -- what a header says of the board
 abbrev pub header_of : Board → Header
@@ -49,14 +49,14 @@ failure_body_of β n = failure_body 3 (failed_frame β (record_at β.crates n))
 -- ---- what each call answers and leaves, of the lent words `out`
 
 -- the static block: the stored 436 words
-abbrev pub SendsStatic : Board → List ℕ → Written → List ℕ → Type 0
+abbrev pub SendsStatic : Board → List ℕ → Result ℕ Refusal → List ℕ → Type 0
 SendsStatic β out r after = WroteStatic (header_of β) β.block out r after
 
-abbrev pub SendsDynamic : Board → List ℕ → List ℕ → Written → List ℕ → Type 0
+abbrev pub SendsDynamic : Board → List ℕ → List ℕ → Result ℕ Refusal → List ℕ → Type 0
 SendsDynamic β temperatures out r after = WroteDynamic (header_of β) β.run.on_time temperatures (finished_rates β) out r after
 
-abbrev pub SendsList : Board → List ℕ → Written → List ℕ → Type 0
+abbrev pub SendsList : Board → List ℕ → Result ℕ Refusal → List ℕ → Type 0
 SendsList β out r after = WroteBlock (list_rules β) 249 (header_of β) (list_body (list_of β)) out r after
 
-abbrev pub SendsFailure : Board → ℕ → List ℕ → Written → List ℕ → Type 0
+abbrev pub SendsFailure : Board → ℕ → List ℕ → Result ℕ Refusal → List ℕ → Type 0
 SendsFailure β n out r after = WroteBlock (failure_rules β n) 29 (header_of β) (failure_body_of β n) out r after

@@ -1,19 +1,19 @@
 -- 01, Slow control, as 02, d changes it: replies and time-ups on a board with the next frame, the first frame, and the number of frames sent.
-use Rattle.std.specs.Prelude.{ℕ, ◌≡◌, List, set}
-use Rattle.refusals.specs.Tables.{Answer, Rule}
+use Rattle.std.specs.Prelude.{ℕ, ◌≡◌, List, set, Result}
+use Rattle.refusals.specs.Tables.{Answer, Rule, answer_of}
 use Rattle.refusals.specs.Writing.{output_after, Wrote}
-use Rattle.refusals.specs.declared.Written.{Written}
 use Rattle.configuration.specs.Configuration.{active_word}
 use Rattle.steps.specs.Steps.{step_frame, judged_event}
 use Rattle.steps.specs.declared.Event.{Event}
 use Rattle.steps.specs.declared.Judged.{Judged}
-use Rattle.crate_pass.specs.Crate.{moved, reply_meaning, unless_refused, served_rules, served_answer, frame_due}
+use Rattle.crate_pass.specs.Crate.{moved, unless_refused, served_rules, served_answer, frame_due}
 use Rattle.crate_pass.specs.declared.Moved.{Moved}
 use Rattle.crate_pass.specs.declared.Outcome.{Outcome}
 use Rattle.four_crates.specs.FourCrates.{first_rules, sent_on}
 use Rattle.board.specs.State.{crate_at, with_crates}
 use Rattle.board.specs.declared.Board.{Board}
 use Rattle.board.specs.declared.ReplyResult.{ReplyResult}
+use Rattle.refusals.specs.declared.Refusal.{Refusal}
 
 -- the frame of the place where crate i is: its board and code say which
 unfoldable pub frame_at : Board → ℕ → List ℕ
@@ -46,7 +46,7 @@ bytes_replied β i h lent = output_after (reply_answer β i h lent) (frame_due �
 
 -- the board answered r to a reply or a time-up on crate i, judged as h, and the lent bytes became `after`
 pub record Replies (β : Board) (i : ℕ) (h : Judged) (lent : List ℕ) (r : ReplyResult) (after : List ℕ) : Type 0 where
-  pub answer : reply_meaning r.answer ≡ reply_answer β i h lent
+  pub answer : answer_of r.answer ≡ reply_answer β i h lent
   pub board : r.board ≡ board_replied β i h lent
   pub bytes : after ≡ bytes_replied β i h lent
 
@@ -57,7 +57,7 @@ abbrev pub fetch_rules : Board → ℕ → List Rule
 fetch_rules β i = first_rules β.crates i
 
 -- the fetch on crate i answered r, with 19 where the lent bytes are too few, and they became `after`
-abbrev pub Fetches : Board → ℕ → List ℕ → Written → List ℕ → Type 0
+abbrev pub Fetches : Board → ℕ → List ℕ → Result ℕ Refusal → List ℕ → Type 0
 Fetches β i lent r after = Wrote (fetch_rules β i) (frame_at β i) lent r after
 
 -- ---- the number of frames sent on a crate

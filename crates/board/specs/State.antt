@@ -1,6 +1,6 @@
 -- 01, What we build, and 02, i: the state, and the board that power-up gives.
 use Rattle.std.specs.Prelude.{ℕ, ◌≡◌, Bool, not, cond, ◌&&◌, List, [], ◌∷◌, leb, replicate}
-use Rattle.refusals.specs.Tables.{Answer, given, refused, Rule, rule, lowest, refusal_meaning}
+use Rattle.refusals.specs.Tables.{Answer, given, refused, Rule, rule, lowest, answer_of}
 use Rattle.numbers.specs.Numbers.{id_limit}
 use Rattle.configuration.specs.Configuration.{active_word}
 use Rattle.run.specs.Run.{is_running, is_fresh, at_power_up}
@@ -11,8 +11,6 @@ use Rattle.crate_pass.specs.declared.Crate.{Crate}
 use Rattle.four_crates.specs.FourCrates.{crate_of, in_pass, rates_of}
 use Rattle.acceptance.specs.declared.Status.{Status}
 use Rattle.board.specs.declared.Board.{Board}
-use Rattle.board.specs.declared.PowerUp.{PowerUp}
-use Rattle.board.specs.declared.PowerUp.TheVariants.{Up, Refused}
 use Rattle.board.specs.declared.PowerUpResult.{PowerUpResult}
 
 -- ---- parts of the state
@@ -65,10 +63,6 @@ fresh_board id firmware =
 abbrev pub power_up_rules : ℕ → List Rule
 power_up_rules id = rule 20 (leb id_limit id) ∷ []
 
-abbrev pub power_up_meaning : PowerUp → Answer Unit
-power_up_meaning Up = given tt
-power_up_meaning (Refused r) = refusal_meaning r
-
 -- ".. and no board": one of ID 0 stands where there is none
 abbrev pub board_for : Answer Unit → ℕ → ℕ → Board
 board_for (given t) id firmware = fresh_board id firmware
@@ -79,5 +73,5 @@ power_up_answer id = lowest (power_up_rules id) tt
 
 -- power-up answered r
 pub record PowersUp (id firmware : ℕ) (r : PowerUpResult) : Type 0 where
-  pub answer : power_up_meaning r.answer ≡ power_up_answer id
+  pub answer : answer_of r.answer ≡ power_up_answer id
   pub board : r.board ≡ board_for (power_up_answer id) id firmware

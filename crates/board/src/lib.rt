@@ -2,13 +2,11 @@
 #![tactic(auto)]
 
 ghost use Rattle.std.specs.Prelude.{◌≡◌, true, cond, ◌≤◌, length};
-ghost use Rattle.refusals.specs.Tables.{given};
+ghost use Rattle.refusals.specs.Tables.{given, answer_of};
 ghost use Rattle.configuration.specs.Configuration.{active_word};
 ghost use Rattle.commands.specs.declared.Command.TheVariants.{Write};
-ghost use Rattle.acceptance.specs.Acceptance.{answer_meaning};
 ghost use Rattle.run.specs.Run.{refreshed};
 ghost use Rattle.crate_pass.specs.declared.PassKind.TheVariants.{Reprogramming, Ping};
-ghost use Rattle.four_crates.specs.FourCrates.{sent_meaning};
 ghost use Rattle.explanations.specs.Explaining.{Explains};
 ghost use Rattle.board.specs.State.{active_words, is_idle, status_of, finished_rates, with_run, fresh_board, PowersUp};
 ghost use Rattle.board.specs.Commands.{written, pinged, after_command, Obeys, TriggersOn, after_clock_step};
@@ -17,20 +15,17 @@ ghost use Rattle.board.specs.SlowControl.{judged_at, Replies, Fetches, sent_answ
 ghost use Rattle.board.specs.RatePass.{rates_begun, Begins};
 ghost use Rattle.board.specs.SentOut.{header_of, SendsStatic, SendsDynamic, SendsList, SendsFailure};
 
-use acceptance::{CommandAnswer, Status, decide};
+use acceptance::{Status, decide};
 use blocks::{Header, write_dynamic, write_failure, write_static};
 use command_reader::block_before;
 use commands::Command;
-use crate_pass::{Crate, PassKind, ReplyAnswer, crate_at_power_up, is_rate_pass};
+use crate_pass::{Crate, Outcome, PassKind, crate_at_power_up, is_rate_pass};
 use explanations::{Explanation, Present, activity_of, explain};
-use four_crates::{
-    FirstStep, FramesSent, RecordFound, begin_all, entries_of, first_on, in_pass, rates_of,
-    record_at, sent_on,
-};
+use four_crates::{begin_all, entries_of, first_on, in_pass, rates_of, record_at, sent_on};
 use ftu_list::{FtuList, write_list};
 use numbers::ID_LIMIT;
 use packets::Fields;
-use refusals::{Refusal, Written};
+use refusals::Refusal;
 use run::{Run, run_at_power_up};
 use steps::{Event, step_frame, write_frame};
 use words::copy_words;
@@ -61,37 +56,23 @@ pub struct Board {
     pub run: Run,
 }
 
-// Whether a board came up.
-#[derive(Clone, Copy)]
-pub enum PowerUp {
-    Up,
-    Refused(Refusal),
-}
-
 #[derive(Clone, Copy)]
 pub struct PowerUpResult {
     // No board of the caller's where power-up is refused: one of ID 0.
     pub board: Board,
-    pub answer: PowerUp,
-}
-
-// Whether a rate pass began.
-#[derive(Clone, Copy)]
-pub enum PassBegun {
-    Begun,
-    Refused(Refusal),
+    pub answer: Result<(), Refusal>,
 }
 
 #[derive(Clone, Copy)]
 pub struct BeginResult {
     pub board: Board,
-    pub answer: PassBegun,
+    pub answer: Result<(), Refusal>,
 }
 
 #[derive(Clone, Copy)]
 pub struct CommandResult {
     pub board: Board,
-    pub answer: CommandAnswer,
+    pub answer: Result<Command, Refusal>,
     // The words that the command used.
     pub used: usize,
 }
@@ -99,13 +80,13 @@ pub struct CommandResult {
 #[derive(Clone, Copy)]
 pub struct TriggerResult {
     pub board: Board,
-    pub answer: Written,
+    pub answer: Result<usize, Refusal>,
 }
 
 #[derive(Clone, Copy)]
 pub struct ReplyResult {
     pub board: Board,
-    pub answer: ReplyAnswer,
+    pub answer: Result<Outcome, Refusal>,
 }
 
 // A board as power-up gives it.
@@ -135,12 +116,12 @@ pub fn power_up(board_id: u64, firmware_id: u16) -> PowerUpResult
     if ID_LIMIT <= board_id {
         return PowerUpResult {
             board: fresh_board(0, 0),
-            answer: PowerUp::Refused(Refusal::WrongHeader),
+            answer: Err(Refusal::WrongHeader),
         };
     }
     PowerUpResult {
         board: fresh_board(board_id, firmware_id),
-        answer: PowerUp::Up,
+        answer: Ok(()),
     }
 }
 
@@ -173,7 +154,8 @@ fn flags_of(block: [u16; 436], index: u8) -> u16
     }
 }
 
-// The kind of the pass that a write or a ping begins.
+// The kind of the pass that a write or a ping begins. (Both begin at one place, with a flag that says which: with two places the compiler carries
+// each field of the four crates through every command, and a write takes longer; docs/DECISIONS.md, "What makes it fast".)
 fn kind_of(is_write: bool) -> PassKind
     ensures { result ≡ cond is_write Reprogramming Ping }
 {
@@ -237,7 +219,7 @@ impl Board {
         }
     }
 
-    // The board with another run.
+    // The board with another run. (Set in place: with `..self` the whole board is copied, and a clock step takes 100 ns for 1.)
     fn with_run(self, run: Run) -> Board
         ensures { result ≡ with_run self run }
     {
@@ -275,14 +257,14 @@ impl Board {
     }
 
     // Does what an obeyed command says, whose block is given. A read and a refusal change nothing.
-    fn carry_out(mut self, answer: CommandAnswer, block: &[u16]) -> Board
-        requires { answer_meaning answer ≡ given Write → length block.now ≡ 436 }
-        ensures { result ≡ after_command self block.now (answer_meaning answer) }
+    fn carry_out(mut self, answer: Result<Command, Refusal>, block: &[u16]) -> Board
+        requires { answer_of answer ≡ given Write → length block.now ≡ 436 }
+        ensures { result ≡ after_command self block.now (answer_of answer) }
     {
         let run = self.run;
         match answer {
-            CommandAnswer::Refused(_) => {}
-            CommandAnswer::Obeyed(c) => match c {
+            Err(_) => {}
+            Ok(c) => match c {
                 Command::Read(_) => {}
                 Command::Start(length) => self.run = run.start(length),
                 Command::Stop => self.run = run.stop(),
@@ -398,12 +380,12 @@ impl Board {
         if in_pass(crates) {
             return BeginResult {
                 board: self,
-                answer: PassBegun::Refused(Refusal::NotAcceptedNow),
+                answer: Err(Refusal::NotAcceptedNow),
             };
         }
         BeginResult {
             board: self.rates_begun(),
-            answer: PassBegun::Begun,
+            answer: Ok(()),
         }
     }
 
@@ -437,23 +419,18 @@ impl Board {
     }
 
     // The first frame of the pass on a crate, into lent bytes.
-    pub fn first_frame(self, index: u8, out: &mut [u8]) -> Written
+    pub fn first_frame(self, index: u8, out: &mut [u8]) -> Result<usize, Refusal>
         ensures { Fetches self index out.old result out.new }
     {
         let crates = self.crates;
         let block = self.block;
-        match first_on(crates, index) {
-            FirstStep::Step(board, code) => write_frame(
-                step_frame(&block, index, board, code),
-                out,
-            ),
-            FirstStep::Refused(r) => Written::Refused(r),
-        }
+        let (board, code) = first_on(crates, index)?;
+        write_frame(step_frame(&block, index, board, code), out)
     }
 
     // The number of frames sent on a crate in this pass, or in the last.
-    pub fn frames_sent(self, index: u8) -> FramesSent
-        ensures { sent_meaning result ≡ sent_answer self index }
+    pub fn frames_sent(self, index: u8) -> Result<u16, Refusal>
+        ensures { answer_of result ≡ sent_answer self index }
     {
         let crates = self.crates;
         sent_on(crates, index)
@@ -474,7 +451,7 @@ impl Board {
     }
 
     // The static block, into lent words.
-    pub fn static_block(self, out: &mut [u16]) -> Written
+    pub fn static_block(self, out: &mut [u16]) -> Result<usize, Refusal>
         ensures { SendsStatic self out.old result out.new }
     {
         let block = self.block;
@@ -482,7 +459,7 @@ impl Board {
     }
 
     // The dynamic block, with lent temperatures, into lent words.
-    pub fn dynamic_block(self, temperatures: &[u16], out: &mut [u16]) -> Written
+    pub fn dynamic_block(self, temperatures: &[u16], out: &mut [u16]) -> Result<usize, Refusal>
         ensures { SendsDynamic self temperatures.now out.old result out.new }
     {
         let run = self.run;
@@ -491,35 +468,29 @@ impl Board {
     }
 
     // The FTU list, into lent words.
-    pub fn ftu_list(self, out: &mut [u16]) -> Written
+    pub fn ftu_list(self, out: &mut [u16]) -> Result<usize, Refusal>
         ensures { SendsList self out.old result out.new }
     {
         let active = self.active;
         let crates = self.crates;
         if in_pass(crates) {
-            return Written::Refused(Refusal::NotAcceptedNow);
+            return Err(Refusal::NotAcceptedNow);
         }
         let entries = entries_of(crates);
         write_list(self.header(), FtuList { active, entries }, out)
     }
 
     // The failure message of an ordinal, into lent words.
-    pub fn failure_message(self, ordinal: usize, out: &mut [u16]) -> Written
+    pub fn failure_message(self, ordinal: usize, out: &mut [u16]) -> Result<usize, Refusal>
         ensures { SendsFailure self ordinal out.old result out.new }
     {
         let crates = self.crates;
         let block = self.block;
         if in_pass(crates) {
-            return Written::Refused(Refusal::NotAcceptedNow);
+            return Err(Refusal::NotAcceptedNow);
         }
-        match record_at(crates, ordinal) {
-            RecordFound::Record(f) => write_failure(
-                self.header(),
-                3,
-                step_frame(&block, f.k / 10, f.k % 10, f.code),
-                out,
-            ),
-            RecordFound::Refused(r) => Written::Refused(r),
-        }
+        let f = record_at(crates, ordinal)?;
+        let frame = step_frame(&block, f.k / 10, f.k % 10, f.code);
+        write_failure(self.header(), 3, frame, out)
     }
 }

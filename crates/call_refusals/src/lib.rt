@@ -1,4 +1,5 @@
-// What refuses a call of an exported function: the number of the refusal, the lowest where several apply, 0 where none does.
+// What refuses a call of an exported function: the number of the refusal, the lowest where several apply, 0 where none does. (Numbers, since the
+// exported functions hand them to C.)
 #![tactic(auto)]
 
 ghost use Rattle.std.specs.Prelude.{◌≡◌, ◌<◌};

@@ -2,22 +2,22 @@
 #![tactic(auto)]
 
 ghost use Rattle.std.specs.Prelude.{◌≡◌};
-ghost use Rattle.refusals.specs.Tables.{given};
+ghost use Rattle.refusals.specs.Tables.{given, answer_of};
 ghost use Rattle.words.specs.Parts.{PartOf};
-ghost use Rattle.command_reader.specs.Reading.{spare_set, count_in, read_meaning, command_answer, used_of, block_before, rest_after, ReadsCommand};
+ghost use Rattle.command_reader.specs.Reading.{spare_set, count_in, command_answer, used_of, block_before, rest_after, ReadsCommand};
 ghost use Rattle.command_reader.specs.CodeShape.{FirstWordsRead};
 
-use bounds::{Bounded, BoundsChecked, check_bounds};
-use commands::{Command, Listed, listed_as};
+use bounds::{Bounded, check_bounds};
+use commands::{Command, listed_as};
 use numbers::number32;
 use refusals::Refusal;
 use words::{part, word_at};
 
-// What reading finds: a command with the words that it takes, or a refusal, which takes none.
+// A command that is read, with the words that it takes.
 #[derive(Clone, Copy)]
-pub enum CommandRead {
-    Accepted(Command, usize),
-    Refused(Refusal),
+pub struct Taken {
+    pub command: Command,
+    pub used: usize,
 }
 
 // The X of a counted start.
@@ -38,57 +38,46 @@ fn spare_set(words: &[u16]) -> bool
 }
 
 // Reads the rest of the command c, which the first three words name.
-fn read_listed(words: &[u16], c: Command) -> CommandRead
+fn read_listed(words: &[u16], c: Command) -> Result<Taken, Refusal>
     requires { FirstWordsRead words.now (given c) }
-    ensures { read_meaning result ≡ command_answer words.now }
+    ensures { answer_of result ≡ command_answer words.now }
 {
     if spare_set(words) {
-        return CommandRead::Refused(Refusal::SpareWordNotZero);
+        return Err(Refusal::SpareWordNotZero);
     }
     let used = 5 + c.block_length();
     if words.len() < used {
-        return CommandRead::Refused(Refusal::WrongLength);
+        return Err(Refusal::WrongLength);
     }
     if c.no_events() {
-        return CommandRead::Refused(Refusal::NoEvents);
+        return Err(Refusal::NoEvents);
     }
     if c.is_write() {
-        match check_bounds(Bounded::Configuration, &words[5..441]) {
-            BoundsChecked::Within => {}
-            BoundsChecked::Above(place) => {
-                return CommandRead::Refused(Refusal::AboveBound(place));
-            }
-        }
+        check_bounds(Bounded::Configuration, &words[5..441])?;
     }
-    CommandRead::Accepted(c, used)
+    Ok(Taken { command: c, used })
 }
 
 // Reads the command that the words begin with.
-pub fn read_command(words: &[u16]) -> CommandRead
-    ensures { read_meaning result ≡ command_answer words.now }
+pub fn read_command(words: &[u16]) -> Result<Taken, Refusal>
+    ensures { answer_of result ≡ command_answer words.now }
 {
     if words.len() < 5 {
-        return CommandRead::Refused(Refusal::TooFewWords);
+        return Err(Refusal::TooFewWords);
     }
     if words[0] != 0x0040 {
-        return CommandRead::Refused(Refusal::WrongFirstWord);
+        return Err(Refusal::WrongFirstWord);
     }
-    let found = listed_as(words[1], words[2], count_in(words));
-    match found {
-        Listed::Found(c) => read_listed(words, c),
-        Listed::Refused(r) => CommandRead::Refused(r),
-    }
+    read_listed(words, listed_as(words[1], words[2], count_in(words))?)
 }
 
-impl CommandRead {
-    // The words that a command used.
-    pub fn used(self) -> usize
-        ensures { result ≡ used_of (read_meaning self) }
-    {
-        match self {
-            CommandRead::Accepted(_, used) => used,
-            CommandRead::Refused(_) => 0,
-        }
+// The words that a command used: none where it is refused.
+pub fn words_used(answer: Result<Taken, Refusal>) -> usize
+    ensures { result ≡ used_of (answer_of answer) }
+{
+    match answer {
+        Ok(taken) => taken.used,
+        Err(_) => 0,
     }
 }
 
@@ -109,7 +98,7 @@ pub fn rest_after(words: &[u16], used: usize) -> &[u16]
 // A command that is read: the answer, and its block and the words that remain as parts of the caller's words.
 #[derive(Clone, Copy)]
 pub struct ReadCommand<'a> {
-    pub answer: CommandRead,
+    pub answer: Result<Taken, Refusal>,
     // No words where the command has no block or is refused.
     pub block: &'a [u16],
     // All words where it is refused.
@@ -121,7 +110,7 @@ pub fn read<'a>(words: &'a [u16]) -> ReadCommand<'a>
     ensures { ReadsCommand words.entry result }
 {
     let answer = read_command(words);
-    let used = answer.used();
+    let used = words_used(answer);
     let block = block_before(words, used);
     let rest = rest_after(words, used);
     ReadCommand {

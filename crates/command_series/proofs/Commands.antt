@@ -8,9 +8,8 @@ use mathlib.Core.Bool.{Bool, true, false, cond}
 use mathlib.Core.List.{List}
 use lib.Dec.{eqb}
 use borrow.Author.Tests.{eq-eqb, ne_eqb, eqb-true}
-use Rattle.refusals.specs.Tables.{answer_number, is_given}
+use Rattle.refusals.specs.Tables.{answer_number, is_given, answer_of}
 use Rattle.command_reader.specs.Reading.{rest_after, rest_of}
-use Rattle.acceptance.specs.Acceptance.{answer_meaning}
 use Rattle.board.specs.State.{fresh_board, power_up_answer, PowersUp}
 use Rattle.board.specs.Commands.{board_answer, board_after, Obeys}
 use Rattle.board.specs.declared.Board.{Board}
@@ -65,7 +64,7 @@ none-obeyed w count p up =
 module _ (w : List ℕ) (count i : ℕ) (rest : List ℕ) (β : Board) (accepted refusal : ℕ) (so_far : ObeyedSoFar w count i rest β accepted refusal) where
   -- the next command, on the words that are left
   pub one-obeyed : (o : CommandResult) → Obeys β rest o → (left : List ℕ) → left ≡ rest_after o.used rest
-      → (g n f : ℕ) → i < count → g ≡ is_given (answer_meaning o.answer) → n ≡ answer_number (answer_meaning o.answer)
+      → (g n f : ℕ) → i < count → g ≡ is_given (answer_of o.answer) → n ≡ answer_number (answer_of o.answer)
       → f ≡ first_of refusal n → ObeyedSoFar w count (i + 1) left o.board (accepted + g) f
   unfolding after_commands accepted_of first_refusal
   one-obeyed o obeyed left el g n f l eg en ef =

@@ -1,36 +1,14 @@
 // Commands obeyed one after another, on a fresh board.
 #![tactic(auto)]
 
-ghost use Rattle.std.specs.Prelude.{◌≡◌, ◌≤◌};
-ghost use Rattle.refusals.specs.Tables.{answer_number, is_given};
-ghost use Rattle.acceptance.specs.Acceptance.{answer_meaning};
+ghost use Rattle.std.specs.Prelude.{◌≡◌};
 ghost use Rattle.command_series.specs.Series.{first_of, ObeysAll};
 
-use acceptance::CommandAnswer;
 use board::{Board, power_up};
 use command_reader::rest_after;
+use refusals::{count_given, number_given};
 
-// Whether a command is accepted: 1, else 0.
-fn accepted_count(answer: CommandAnswer) -> u64
-    ensures { (result ≡ is_given (answer_meaning answer)) × (result ≤ 1) }
-{
-    match answer {
-        CommandAnswer::Obeyed(_) => 1,
-        CommandAnswer::Refused(_) => 0,
-    }
-}
-
-// The number of the refusal of a command, 0 where it is accepted.
-fn command_refusal(answer: CommandAnswer) -> u8
-    ensures { result ≡ answer_number (answer_meaning answer) }
-{
-    match answer {
-        CommandAnswer::Obeyed(_) => 0,
-        CommandAnswer::Refused(r) => r.number(),
-    }
-}
-
-// The first of two refusals' numbers, of which 0 is none.
+// The first of two refusals' numbers, of which 0 is none, as the exported functions hand them to C.
 fn first_of(a: u8, b: u8) -> u8
     ensures { result ≡ first_of a b }
 {
@@ -54,17 +32,15 @@ pub fn obey_series(words: &[u16], count: u64) -> AfterCommands
     let mut accepted = 0;
     let mut refusal = 0;
     let mut rest = words;
-    let mut i = 0;
-    while i < count {
+    for _i in 0..count {
         let done = board.obey(rest);
         let answer = done.answer;
         let next = done.board;
         let after = rest_after(rest, done.used);
         rest = after;
-        accepted += accepted_count(answer);
-        refusal = first_of(refusal, command_refusal(answer));
+        accepted += count_given(&answer);
+        refusal = first_of(refusal, number_given(&answer));
         board = next;
-        i += 1;
     }
     AfterCommands {
         board,

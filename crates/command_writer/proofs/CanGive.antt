@@ -7,9 +7,9 @@ use mathlib.Core.List.{List, [], ◌∷◌}
 use mathlib.Core.Logic.{inl, inr}
 use native.Mathlib.Omega.{arith}
 use lib.ListN.{length, replicate}
-use Rattle.refusals.specs.Tables.{Rule, refused}
-use Rattle.refusals.specs.Writing.{writing_by, writing_rules, written_meaning}
-use Rattle.refusals.specs.declared.Written.{Written}
+use Rattle.std.specs.Prelude.{Result}
+use Rattle.refusals.specs.Tables.{Rule, refused, answer_of}
+use Rattle.refusals.specs.Writing.{writing_by, writing_rules}
 use Rattle.refusals.proofs.Tables.{Applies, refused-applies}
 use Rattle.bounds.specs.Bounds.{bound_of, lent_rules}
 use Rattle.commands.specs.declared.BlockKind.TheVariants.{Static}
@@ -18,6 +18,7 @@ use Rattle.commands.specs.declared.Command.{Command}
 use Rattle.commands.specs.declared.Command.TheVariants.{Read, Write, Start, Stop, Ping, CrateReset}
 use Rattle.command_writer.specs.Writing.{command_words, write_rules, WroteCommand}
 use Rattle.command_writer.specs.CanGive.{numbers_given, one_of, GivenFor, CanGive}
+use Rattle.refusals.specs.declared.Refusal.{Refusal}
 
 -- ---- no other
 
@@ -45,8 +46,8 @@ rows Stop b out = refl
 rows Ping b out = refl
 rows (CrateReset c) b out = refl
 
-only-these : (c : Command) (b out : List ℕ) (r : Written) (after : List ℕ) → WroteCommand c b out r after
-    → (n p : ℕ) → written_meaning r ≡ refused n p → one_of numbers_given n ≡ true
+only-these : (c : Command) (b out : List ℕ) (r : Result ℕ Refusal) (after : List ℕ) → WroteCommand c b out r after
+    → (n p : ℕ) → answer_of r ≡ refused n p → one_of numbers_given n ≡ true
 unfolding writing_by
 only-these c b out r after w n p e =
     let rules = writing_rules (write_rules c b) (command_words c b) out in

@@ -5,9 +5,9 @@ use mathlib.Core.Path.{◌≡◌}
 use mathlib.Core.List.{List}
 use lib.Dec.{T}
 use lib.ListN.{length}
+use Rattle.std.specs.Prelude.{Result}
 use Rattle.refusals.specs.Tables.{rising}
 use Rattle.refusals.specs.Writing.{Wrote, writing_rules, writing}
-use Rattle.refusals.specs.declared.Written.{Written}
 use Rattle.refusals.proofs.Tables.{Exactly}
 use Rattle.refusals.proofs.Writing.{writing-exactly}
 use Rattle.bounds.specs.Bounds.{lent_rules}
@@ -15,8 +15,9 @@ use Rattle.commands.specs.declared.RunLength.TheVariants.{Endless, Counted}
 use Rattle.commands.specs.declared.Command.{Command}
 use Rattle.commands.specs.declared.Command.TheVariants.{Read, Write, Start, Stop, Ping, CrateReset}
 use Rattle.command_writer.specs.Writing.{command_words, write_rules, CountFits, WroteCommand}
+use Rattle.refusals.specs.declared.Refusal.{Refusal}
 
-module _ (b out : List ℕ) (r : Written) (after : List ℕ) where
+module _ (b out : List ℕ) (r : Result ℕ Refusal) (after : List ℕ) where
   pub command-is : (c d : Command) → c ≡ d → CountFits d → Wrote (write_rules d b) (command_words d b) out r after → WroteCommand c b out r after
   command-is c d e f w = rw e (record { wrote = w; fits = f })
 

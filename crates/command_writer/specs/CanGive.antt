@@ -1,10 +1,10 @@
 -- 01, Command words: the writer of commands "can give 6, 7, 8, 11 or 19", each of them, and no other.
-use Rattle.std.specs.Prelude.{ℕ, ◌≡◌, Bool, true, false, ◌||◌, List, [], ◌∷◌, eqb}
-use Rattle.refusals.specs.Tables.{refused}
-use Rattle.refusals.specs.Writing.{writing, written_meaning}
-use Rattle.refusals.specs.declared.Written.{Written}
+use Rattle.std.specs.Prelude.{ℕ, ◌≡◌, Bool, true, false, ◌||◌, List, [], ◌∷◌, eqb, Result}
+use Rattle.refusals.specs.Tables.{refused, answer_of}
+use Rattle.refusals.specs.Writing.{writing}
 use Rattle.commands.specs.declared.Command.{Command}
 use Rattle.command_writer.specs.Writing.{command_words, write_rules, WroteCommand}
+use Rattle.refusals.specs.declared.Refusal.{Refusal}
 
 abbrev pub numbers_given : List ℕ
 numbers_given = 6 ∷ 7 ∷ 8 ∷ 11 ∷ 19 ∷ []
@@ -28,6 +28,6 @@ EachGiven (n ∷ ns) = GivenFor n × EachGiven ns
 
 -- of what the writer promises: a refusal has one of these numbers, and each of them is given
 pub record CanGive (numbers : List ℕ) : Type 0 where
-  pub only : (c : Command) (b out : List ℕ) (r : Written) (after : List ℕ) → WroteCommand c b out r after
-      → (n p : ℕ) → written_meaning r ≡ refused n p → one_of numbers n ≡ true
+  pub only : (c : Command) (b out : List ℕ) (r : Result ℕ Refusal) (after : List ℕ) → WroteCommand c b out r after
+      → (n p : ℕ) → answer_of r ≡ refused n p → one_of numbers n ≡ true
   pub each : EachGiven numbers

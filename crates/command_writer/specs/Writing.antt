@@ -1,14 +1,14 @@
 -- 01, Command words: the words of a command as they are written, and the refusals of its writer.
-use Rattle.std.specs.Prelude.{ℕ, ◌^◌, ◌<◌, List, [], ◌∷◌, ◌++◌, ltb, eqb}
+use Rattle.std.specs.Prelude.{ℕ, ◌^◌, ◌<◌, List, [], ◌∷◌, ◌++◌, ltb, eqb, Result}
 use Rattle.refusals.specs.Tables.{Rule, rule}
 use Rattle.refusals.specs.Writing.{Wrote}
-use Rattle.refusals.specs.declared.Written.{Written}
 use Rattle.numbers.specs.Numbers.{digits}
 use Rattle.bounds.specs.Bounds.{bound_of, lent_rules}
 use Rattle.commands.specs.Commands.{id_of, parameter_of}
 use Rattle.commands.specs.declared.RunLength.TheVariants.{Endless, Counted}
 use Rattle.commands.specs.declared.Command.{Command}
 use Rattle.commands.specs.declared.Command.TheVariants.{Read, Write, Start, Stop, Ping, CrateReset}
+use Rattle.refusals.specs.declared.Refusal.{Refusal}
 
 -- "Word 0 is 0x0040; 1 the command; 2 the parameter; 3 and 4 zero"
 abbrev pub five_words : ℕ → ℕ → List ℕ
@@ -49,6 +49,6 @@ CountFits Ping = Unit
 CountFits (CrateReset n) = Unit
 
 -- the writer of the command c, with the block b of a write, answered r, and the lent words `out` became `after`
-pub record WroteCommand (c : Command) (b out : List ℕ) (r : Written) (after : List ℕ) : Type 0 where
+pub record WroteCommand (c : Command) (b out : List ℕ) (r : Result ℕ Refusal) (after : List ℕ) : Type 0 where
   pub wrote : Wrote (write_rules c b) (command_words c b) out r after
   pub fits : CountFits c

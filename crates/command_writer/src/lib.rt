@@ -7,42 +7,42 @@ ghost use Rattle.commands.specs.declared.Command.TheVariants.{Write, Start, Crat
 ghost use Rattle.commands.specs.declared.RunLength.TheVariants.{Counted};
 ghost use Rattle.command_writer.specs.Writing.{five_words, command_words, write_rules, WroteCommand};
 
-use bounds::{Bounded, BoundsChecked, check_bounds};
+use bounds::{Bounded, check_bounds};
 use commands::{BlockKind, Command, RunLength};
-use numbers::words32;
-use refusals::{Refusal, Written};
+use numbers::words;
+use refusals::Refusal;
 use words::copy_words;
 
 // Lays down the five words of a command that has no block.
-fn put_five(id: u16, parameter: u16, out: &mut [u16]) -> Written
+fn put_five(id: u16, parameter: u16, out: &mut [u16]) -> Result<usize, Refusal>
     ensures { Wrote [] (five_words id parameter) out.old result out.new }
 {
     if out.len() < 5 {
-        return Written::Refused(Refusal::OutputTooShort);
+        return Err(Refusal::OutputTooShort);
     }
     let five = [0x0040, id, parameter, 0, 0];
     copy_words(&five, out);
-    Written::Length(5)
+    Ok(5)
 }
 
 // A start that counts x events.
-fn put_count(x: u32, out: &mut [u16]) -> Written
+fn put_count(x: u32, out: &mut [u16]) -> Result<usize, Refusal>
     ensures { WroteCommand (Start (Counted x)) [] out.old result out.new }
 {
     if x == 0 {
-        return Written::Refused(Refusal::NoEvents);
+        return Err(Refusal::NoEvents);
     }
     if out.len() < 7 {
-        return Written::Refused(Refusal::OutputTooShort);
+        return Err(Refusal::OutputTooShort);
     }
-    let count = words32(x);
+    let count = words::<2>(x as u64);
     let seven = [0x0040, 0x04, 2, 0, 0, count[0], count[1]];
     copy_words(&seven, out);
-    Written::Length(7)
+    Ok(7)
 }
 
 // A reset of the crate with this number.
-fn put_reset(number: u8, out: &mut [u16]) -> Written
+fn put_reset(number: u8, out: &mut [u16]) -> Result<usize, Refusal>
     ensures { Wrote (write_rules (CrateReset number) []) (command_words (CrateReset number) []) out.old result out.new }
 {
     match number {
@@ -50,32 +50,29 @@ fn put_reset(number: u8, out: &mut [u16]) -> Written
         1 => put_five(0x20, 2, out),
         2 => put_five(0x20, 4, out),
         3 => put_five(0x20, 8, out),
-        _ => Written::Refused(Refusal::NoSuchCrate),
+        _ => Err(Refusal::NoSuchCrate),
     }
 }
 
 // A write with its block.
-fn put_write(block: &[u16], out: &mut [u16]) -> Written
+fn put_write(block: &[u16], out: &mut [u16]) -> Result<usize, Refusal>
     ensures { Wrote (write_rules Write block.now) (command_words Write block.now) out.old result out.new }
 {
     if block.len() != 436 {
-        return Written::Refused(Refusal::WrongLength);
+        return Err(Refusal::WrongLength);
     }
-    match check_bounds(Bounded::Configuration, block) {
-        BoundsChecked::Within => {}
-        BoundsChecked::Above(place) => return Written::Refused(Refusal::AboveBound(place)),
-    }
+    check_bounds(Bounded::Configuration, block)?;
     if out.len() < 441 {
-        return Written::Refused(Refusal::OutputTooShort);
+        return Err(Refusal::OutputTooShort);
     }
     let five = [0x0040u16, 0x02, 1, 0, 0];
     copy_words(&five, out);
     copy_words(block, &mut out[5..]);
-    Written::Length(441)
+    Ok(441)
 }
 
 // Writes a command, with the block of a write, to the front of the lent words. Other commands do not look at the block.
-pub fn write_command(c: Command, block: &[u16], out: &mut [u16]) -> Written
+pub fn write_command(c: Command, block: &[u16], out: &mut [u16]) -> Result<usize, Refusal>
     ensures { WroteCommand c block.now out.old result out.new }
 {
     match c {

@@ -1,25 +1,18 @@
 -- A board's part of the block, and its flag.
 -- Assumes nothing.
 use Prim.Native.Nat.{ℕ, ◌+◌, ◌-◌, ◌/◌, ◌^◌, ◌<◌, ◌≤◌}
-use mathlib.Core.Path.{◌≡◌, sym, ap, ◌∙◌}
+use mathlib.Core.Path.{◌≡◌, ap}
 use mathlib.Core.Bool.{false}
 use mathlib.Core.List.{List}
 use native.Mathlib.Nat.{pow-le-pow_right, div-eq_of_lt}
 use native.Mathlib.Omega.{arith}
 use lib.ListN.{length, take, drop, length-drop}
-use lib.Seq.{take_all, length-take-le}
+use lib.Seq.{length-take-le}
 use Rattle.configuration.specs.Configuration.{begin_of, board_words, flag_set}
 
 -- ---- a board's ten words
 
 module _ (block : List ℕ) (c b : ℕ) where
-  -- where the block ends before them
-  pub board-short : (from n : ℕ) → from ≡ begin_of c b → length block - from ≤ n → n ≤ 10 → take n (drop from block) ≡ board_words block c b
-  unfolding board_words
-  board-short from n e h m =
-      let l : length (drop from block) ≡ length block - from = length-drop from block in
-      take_all n (drop from block) (omega arith) ∙ sym (take_all 10 (drop from block) (omega arith)) ∙ ap (λ (k : ℕ). take 10 (drop k block)) e
-
   pub board-whole : (from : ℕ) → from ≡ begin_of c b → take (from + 10 - from) (drop from block) ≡ board_words block c b
   unfolding board_words
   board-whole from e = let n : from + 10 - from ≡ 10 = omega arith in rw n (ap (λ (k : ℕ). take 10 (drop k block)) e)

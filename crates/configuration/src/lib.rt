@@ -4,7 +4,8 @@
 ghost use Rattle.std.specs.Prelude.{◌≡◌};
 ghost use Rattle.configuration.specs.Configuration.{begin_of, address_of, board_words, settings_of, active_word, flag_set};
 
-use words::word_at;
+use std::array::from_fn;
+use words::{part, word_at};
 
 // A board's settings, from its ten words.
 #[derive(Clone, Copy)]
@@ -27,45 +28,24 @@ pub fn begin_of(c: u8, b: u8) -> usize
 pub fn address_of(c: u8, b: u8) -> u8
     ensures { result ≡ address_of c b }
 {
-    ((16 * (c as u16) + (b as u16)) % 256) as u8
+    c.wrapping_mul(16).wrapping_add(b)
 }
 
-// The ten words of board b of crate c, as a part of the block; fewer where the block ends before. (Where just ten are left, or none, two of
-// the ways out give the same part.)
+// The ten words of board b of crate c, as a part of the block; fewer where the block ends before.
 pub fn board_words(block: &[u16], c: u8, b: u8) -> &[u16]
     ensures { result.now ≡ board_words block.now c b }
 {
     let from = begin_of(c, b);
-    if block.len() <= from {
-        return &block[..0];
-    }
-    if block.len() - from < 10 {
-        return &block[from..];
-    }
-    let to = from + 10;
-    &block[from..to]
+    part(block, from, from + 10)
 }
 
 // The settings in a board's ten words.
 pub fn settings_of(words: &[u16]) -> Settings
     ensures { result ≡ settings_of words.now }
 {
-    let enables = [
-        word_at(words, 0),
-        word_at(words, 1),
-        word_at(words, 2),
-        word_at(words, 3),
-    ];
-    let dacs = [
-        word_at(words, 4),
-        word_at(words, 5),
-        word_at(words, 6),
-        word_at(words, 7),
-        word_at(words, 8),
-    ];
     Settings {
-        enables,
-        dacs,
+        enables: from_fn(|i| word_at(words, i)),
+        dacs: from_fn(|i| word_at(words, 4 + i)),
         prescaling: word_at(words, 9),
     }
 }
@@ -81,8 +61,5 @@ pub fn active_word(block: &[u16], c: u8) -> u16
 pub fn flag_set(word: u16, b: u8) -> bool
     ensures { result ≡ flag_set word b }
 {
-    if 16 <= b {
-        return false;
-    }
-    (word >> b) % 2 == 1
+    b < 16 && (word >> b) % 2 == 1
 }

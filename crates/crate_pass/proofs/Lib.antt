@@ -8,4 +8,3 @@ pub mod After
 pub mod Entries
 pub mod Invariant
 pub mod Tables
-pub mod Injective

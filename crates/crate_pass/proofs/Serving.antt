@@ -7,18 +7,17 @@ use mathlib.Core.List.{List, [], ◌++◌}
 use lib.Dec.{ltb, leb}
 use lib.ListN.{set, length, drop}
 use borrow.Author.Tests.{lt-ltb, le-ltb, lt-leb, le-leb}
-use Rattle.refusals.specs.Tables.{Answer, given, refused}
+use Rattle.std.specs.Prelude.{Result, Ok, Err}
+use Rattle.refusals.specs.Tables.{Answer, given, refused, answer_of}
 use Rattle.refusals.specs.Writing.{output_after, Wrote}
 use Rattle.refusals.specs.Refusals.{number_of, place_of}
 use Rattle.refusals.specs.declared.Refusal.{Refusal}
 use Rattle.refusals.specs.declared.Refusal.TheVariants.{NoSuchCrate, NothingOutstanding, OutputTooShort}
-use Rattle.refusals.specs.declared.Written.{Written}
 use Rattle.refusals.proofs.Writing.{wrote}
 use Rattle.steps.specs.Steps.{step_frame}
 use Rattle.steps.proofs.Lengths.{step-length}
 use Rattle.steps.specs.declared.Judged.{Judged}
 use Rattle.crate_pass.specs.declared.PassKind.{PassKind}
-use Rattle.crate_pass.specs.declared.ReplyAnswer.TheVariants.{Served, Refused}
 use Rattle.crate_pass.specs.declared.Crate.{Crate}
 use Rattle.crate_pass.specs.declared.Place.{Place}
 use Rattle.crate_pass.specs.declared.Moved.{Moved}
@@ -26,7 +25,7 @@ use Rattle.crate_pass.specs.declared.CrateResult.{CrateResult}
 use Rattle.crate_pass.specs.declared.Outcome.{Outcome}
 use Rattle.crate_pass.specs.declared.Outcome.TheVariants.{Good, Again, BoardFailed}
 use Rattle.crate_pass.specs.Crate.{is_done, counted_frame, placed, advanced, stepped, noted, with_record}
-use Rattle.crate_pass.specs.Crate.{with_outcome, says_done, after_good_reply, after_failed_send, moved, reply_meaning, unless_refused}
+use Rattle.crate_pass.specs.Crate.{with_outcome, says_done, after_good_reply, after_failed_send, moved, unless_refused}
 use Rattle.crate_pass.specs.Crate.{served_answer, frame_due, Serves}
 use Rattle.crate_pass.specs.CodeShape.{next_place, place_after}
 use Rattle.crate_pass.proofs.Answered.{crate_answer, crate_after}
@@ -150,27 +149,27 @@ module _ (kind : PassKind) (w : ℕ) (k : Crate) (h : Judged) where
         bytes_after a = output_after a (frame_due block c (moved kind w k h).state) lent
 
         -- refused, the crate and the bytes are as they were
-        serves-refused : (r : CrateResult) (refusal : Refusal) → (r.state ≡ k) × (r.answer ≡ Refused refusal)
+        serves-refused : (r : CrateResult) (refusal : Refusal) → (r.state ≡ k) × (r.answer ≡ Err refusal)
             → served_answer kind w c k h lent ≡ refused (number_of refusal) (place_of refusal) → Serves kind w block c k h lent r lent
         serves-refused r refusal q e =
-            record { answer = ap reply_meaning q.1 ∙ sym e; state = q.0 ∙ sym (ap state_after e); bytes = sym (ap bytes_after e) }
+            record { answer = ap answer_of q.1 ∙ sym e; state = q.0 ∙ sym (ap state_after e); bytes = sym (ap bytes_after e) }
 
         module _ (r : CrateResult) where
-          pub serves-high : (r.state ≡ k) × (r.answer ≡ Refused NoSuchCrate) → 3 < c → Serves kind w block c k h lent r lent
+          pub serves-high : (r.state ≡ k) × (r.answer ≡ Err NoSuchCrate) → 3 < c → Serves kind w block c k h lent r lent
           serves-high q l = serves-refused r NoSuchCrate q (served-high l)
 
-          pub serves-none : (r.state ≡ k) × (r.answer ≡ Refused NothingOutstanding) → c ≤ 3 → 10 ≤ k.board
+          pub serves-none : (r.state ≡ k) × (r.answer ≡ Err NothingOutstanding) → c ≤ 3 → 10 ≤ k.board
               → Serves kind w block c k h lent r lent
           serves-none q l d = serves-refused r NothingOutstanding q (served-low l ∙ answer-none d)
 
-          pub serves-short : (r.state ≡ k) × (r.answer ≡ Refused OutputTooShort) → c ≤ 3 → k.board < 10 → length lent < 28
+          pub serves-short : (r.state ≡ k) × (r.answer ≡ Err OutputTooShort) → c ≤ 3 → k.board < 10 → length lent < 28
               → Serves kind w block c k h lent r lent
           serves-short q l d m = serves-refused r OutputTooShort q (served-low l ∙ answer-short d m)
 
         -- `g`: as the code judged it
         serves-moved : (g : Judged) → g ≡ h → (m : Moved) → m ≡ moved kind w k g → c ≤ 3 → k.board < 10 → 28 ≤ length lent
             → (after : List ℕ) → after ≡ frame_due block c m.state ++ drop (length (frame_due block c m.state)) lent
-            → Serves kind w block c k h lent (record { state = m.state; answer = Served m.outcome }) after
+            → Serves kind w block c k h lent (record { state = m.state; answer = Ok m.outcome }) after
         serves-moved g eg m em l d n after b =
             let e = served-low l ∙ answer-moved d n in
             let q : m ≡ moved kind w k h = em ∙ ap (moved kind w k) eg in
@@ -192,7 +191,7 @@ unfolding frame_due
 due-none block c k d = rw (le-leb _ _ d)
 
 -- where it is written, and there is room, the bytes then begin with it; where none is due, they are left
-due-written : (block : List ℕ) (c : ℕ) (k : Crate) (lent f after : List ℕ) (r : Written) → k.board < 10 → 28 ≤ length lent
+due-written : (block : List ℕ) (c : ℕ) (k : Crate) (lent f after : List ℕ) (r : Result ℕ Refusal) → k.board < 10 → 28 ≤ length lent
     → f ≡ step_frame block c k.board k.code → Wrote [] f lent r after → after ≡ frame_due block c k ++ drop (length (frame_due block c k)) lent
 due-written block c k lent f after r d l e w =
     let size : length f ≡ 28 = ap length e ∙ step-length block c k.board k.code in
@@ -208,9 +207,9 @@ due-left block c k lent d = ap (λ (x : List ℕ). x ++ drop (length x) lent) (s
 -- served, with the next frame, and with none
 module _ (kind : PassKind) (w : ℕ) (k : Crate) (h : Judged) (lent : List ℕ) (c : ℕ) (block : List ℕ) (g : Judged) (eg : g ≡ h)
     (m : Moved) (em : m ≡ moved kind w k g) (l : c ≤ 3) (d : k.board < 10) (n : 28 ≤ length lent) where
-  pub serves-next : (f after : List ℕ) (r : Written) → m.state.board < 10 → f ≡ step_frame block c m.state.board m.state.code
-      → Wrote [] f lent r after → Serves kind w block c k h lent (record { state = m.state; answer = Served m.outcome }) after
+  pub serves-next : (f after : List ℕ) (r : Result ℕ Refusal) → m.state.board < 10 → f ≡ step_frame block c m.state.board m.state.code
+      → Wrote [] f lent r after → Serves kind w block c k h lent (record { state = m.state; answer = Ok m.outcome }) after
   serves-next f after r b e u = serves-moved kind w k h lent c block g eg m em l d n after (due-written block c m.state lent f after r b n e u)
 
-  pub serves-done : 10 ≤ m.state.board → Serves kind w block c k h lent (record { state = m.state; answer = Served m.outcome }) lent
+  pub serves-done : 10 ≤ m.state.board → Serves kind w block c k h lent (record { state = m.state; answer = Ok m.outcome }) lent
   serves-done b = serves-moved kind w k h lent c block g eg m em l d n lent (due-left block c m.state lent b)

@@ -1,6 +1,6 @@
 -- 01, Slow control, and 02, i: one crate in a pass. Its place is a board and a code; crates/any_order shows that it follows the steps of a pass.
 use Rattle.std.specs.Prelude.{ℕ, zero, suc, ◌+◌, ◌*◌, ◌-◌, ◌≡◌, Bool, true, false, cond, ◌||◌, List, [], ◌∷◌, ◌++◌, ltb, leb, eqb, set, take, drop, replicate}
-use Rattle.refusals.specs.Tables.{Answer, given, refused, Rule, rule, lowest, refusal_meaning}
+use Rattle.refusals.specs.Tables.{Answer, given, refused, Rule, rule, lowest, answer_of}
 use Rattle.refusals.specs.Writing.{too_short, output_after}
 use Rattle.configuration.specs.Configuration.{flag_set}
 use Rattle.ftu_list.specs.declared.Entry.{Entry}
@@ -11,8 +11,6 @@ use Rattle.crate_pass.specs.declared.PassKind.{PassKind}
 use Rattle.crate_pass.specs.declared.PassKind.TheVariants.{Reprogramming, Ping, Rates}
 use Rattle.crate_pass.specs.declared.Outcome.{Outcome}
 use Rattle.crate_pass.specs.declared.Outcome.TheVariants.{Good, Again, BoardFailed}
-use Rattle.crate_pass.specs.declared.ReplyAnswer.{ReplyAnswer}
-use Rattle.crate_pass.specs.declared.ReplyAnswer.TheVariants.{Served, Refused}
 use Rattle.crate_pass.specs.declared.Crate.{Crate}
 use Rattle.crate_pass.specs.declared.Moved.{Moved}
 use Rattle.crate_pass.specs.declared.CrateResult.{CrateResult}
@@ -215,11 +213,6 @@ after_failed_send kind w k =
 abbrev pub moved : PassKind → ℕ → Crate → Judged → Moved
 moved kind w k h = cond h.good (after_good_reply kind w k h) (after_failed_send kind w k)
 
--- an answer as 01 has it
-abbrev pub reply_meaning : ReplyAnswer → Answer Outcome
-reply_meaning (Served o) = given o
-reply_meaning (Refused r) = refusal_meaning r
-
 -- ---- on the crate of a number, with lent bytes
 
 -- "11: crate above 3"
@@ -249,7 +242,7 @@ frame_due block c k = cond (is_done k) [] (step_frame block c k.board k.code)
 -- crate c answered r to what was judged as h, and the lent bytes became `after`: "the next frame, or word that the crate is done and the bytes
 -- untouched" (02, d)
 pub record Serves (kind : PassKind) (w : ℕ) (block : List ℕ) (c : ℕ) (k : Crate) (h : Judged) (lent : List ℕ) (r : CrateResult) (after : List ℕ) : Type 0 where
-  pub answer : reply_meaning r.answer ≡ served_answer kind w c k h lent
+  pub answer : answer_of r.answer ≡ served_answer kind w c k h lent
   pub state : r.state ≡ unless_refused (served_answer kind w c k h lent) (moved kind w k h).state k
   pub bytes : after ≡ output_after (served_answer kind w c k h lent) (frame_due block c (moved kind w k h).state) lent
 

@@ -2,10 +2,9 @@
 // rates.
 #![tactic(auto)]
 
-ghost use Rattle.std.specs.Prelude.{◌≡◌, ◌<◌};
+ghost use Rattle.std.specs.Prelude.{◌≡◌, ◌<◌, Err};
 ghost use Rattle.crate_pass.specs.Crate.{next_board, first_code, calls_at, clears_list, is_rate_pass, crate_at_power_up, is_done, sent_at, begun_crate};
 ghost use Rattle.crate_pass.specs.Crate.{counted_frame, with_twelve, noted, moved, judged_on, Serves};
-ghost use Rattle.crate_pass.specs.declared.ReplyAnswer.TheVariants.{Refused};
 ghost use Rattle.crate_pass.specs.CodeShape.{next_place, place_after};
 
 use configuration::flag_set;
@@ -28,29 +27,23 @@ pub enum Outcome {
     BoardFailed(bool),
 }
 
-// What a reply or a time-up gets.
-#[derive(Clone, Copy)]
-pub enum ReplyAnswer {
-    Served(Outcome),
-    Refused(Refusal),
-}
-
 // The arrays stand first and what changes most stands last, so that a begin clears an array at once and little is copied.
 #[derive(Clone, Copy)]
 pub struct Crate {
     // The rates of this rate pass or the last, each board's twelve words at 12 times its number.
     pub rates: [u16; 120],
-    // The boards' part of the FTU list, each board's at its number: its DNA, the calls that it needed, its CRC error byte.
+    // The boards' part of the FTU list, each board's at its number: its DNA, the calls that it needed, its CRC error byte. (Three arrays, which are
+    // cleared and copied at once; one of entries goes field by field.)
     pub dna: [u64; 10],
     pub calls: [u8; 10],
     pub crc_errors: [u8; 10],
-    // For each board the code of its step that failed, 0 where none did.
+    // For each board the code of its step that failed, 0 where none did, as `failed_at` of the specs has it.
     pub failed: [u8; 10],
     // The frames sent in this pass.
     pub sent: u16,
-    // The board whose frame is outstanding; 10 where none is.
+    // The board whose frame is outstanding; 10 where none is, as `next_board` of the specs counts and the theorem of `any_order` goes on.
     pub board: u8,
-    // The number of that frame's code.
+    // The number of that frame's code: `steps::step_frame` answers each number, of a code or not.
     pub code: u8,
     // How often that step failed.
     pub tries: u8,
@@ -75,19 +68,17 @@ pub struct Moved {
 #[derive(Clone, Copy)]
 pub struct CrateResult {
     pub state: Crate,
-    pub answer: ReplyAnswer,
+    pub answer: Result<Outcome, Refusal>,
 }
 
 // The first active board from one on, or 10.
 fn next_active(word: u16, from: u8) -> u8
     ensures { result ≡ next_board PassKind.Reprogramming word from }
 {
-    let mut b = from;
-    while b < 10 {
+    for b in from..10 {
         if flag_set(word, b) {
             return b;
         }
-        b += 1;
     }
     10
 }
@@ -181,22 +172,14 @@ fn count_frame(board: u8, sent: u16) -> u16
 fn clears_list(kind: PassKind) -> bool
     ensures { result ≡ clears_list kind }
 {
-    match kind {
-        PassKind::Reprogramming => false,
-        PassKind::Ping => true,
-        PassKind::Rates => false,
-    }
+    matches!(kind, PassKind::Ping)
 }
 
 // Whether it is a rate pass, which clears the rates as it begins.
 pub fn is_rate_pass(kind: PassKind) -> bool
     ensures { result ≡ is_rate_pass kind }
 {
-    match kind {
-        PassKind::Reprogramming => false,
-        PassKind::Ping => false,
-        PassKind::Rates => true,
-    }
+    matches!(kind, PassKind::Rates)
 }
 
 // The words of the boards with those of one put in their place.
@@ -229,11 +212,11 @@ pub fn crate_at_power_up() -> Crate
 
 // A refusal, which leaves the crate as it is.
 fn refused(state: Crate, refusal: Refusal) -> CrateResult
-    ensures { (result.state ≡ state) × (result.answer ≡ Refused refusal) }
+    ensures { (result.state ≡ state) × (result.answer ≡ Err refusal) }
 {
     CrateResult {
         state,
-        answer: ReplyAnswer::Refused(refusal),
+        answer: Err(refusal),
     }
 }
 
@@ -351,11 +334,12 @@ impl Crate {
         let state = served.state;
         let outcome = served.outcome;
         if state.board < 10 {
-            write_frame(step_frame(block, index, state.board, state.code), out);
+            // There is room for it.
+            let _ = write_frame(step_frame(block, index, state.board, state.code), out);
         }
         CrateResult {
             state,
-            answer: ReplyAnswer::Served(outcome),
+            answer: Ok(outcome),
         }
     }
 }

@@ -4,21 +4,24 @@
 use Prim.Native.Nat.{ℕ, zero, suc, ◌+◌, ◌-◌, ◌*◌, ◌/◌, ◌%◌, ◌^◌, ◌≤◌, ◌<◌}
 use mathlib.Core.Path.{◌≡◌, refl, ap, ap₂, ◌∙◌, sym}
 use mathlib.Core.Bool.{Bool}
-use mathlib.Core.List.{List, [], ◌∷◌}
+use mathlib.Core.List.{List, [], ◌∷◌, ◌++◌}
 use native.Mathlib.Omega.{arith}
 use native.Mathlib.Numerals.{one-add}
-use native.Mathlib.Nat.{add-zero, zero-mul, one-mul, mod-lt}
-use lib.Bits.{bit_xor, xor_comm, xor_lt, xor_mod, xor_shr, xor_block, xor_shifted, xor_zero_r}
+use native.Mathlib.Nat.{zero-mul, one-mul, mod-lt}
+use lib.Bits.{bit_xor, xor_lt, xor_mod, xor_shr, xor_shifted}
 use lib.Dec.{T, eqb, eqb→eq}
-use lib.ListN.{length, drop, get_or, replicate, drop_of_length-le}
+use lib.ListN.{length, take, drop, get_or, replicate, drop_of_length-le}
 use lib.Pow.{pow_pos, shr_lt, split}
 use lib.Seq.{drop-cons}
+use Rattle.std.specs.List.{concat}
+use Rattle.std.specs.Simd.{first_chunks}
+use Rattle.std.proofs.lemmas.List.{append_assoc, length-drop, length-take-le, drop-drop, drop_more, take-append-drop}
 use Rattle.crc.specs.Crc.{crc_byte, crc}
 use Rattle.crc.specs.CodeShape.{crc_word}
 use Rattle.crc.proofs.Below.{all_below, below}
 use Rattle.crc.proofs.Linear.{xors, crc_byte-linear, crc-linear}
-use Rattle.crc.proofs.Starts.{start-met, start-adds}
-use Rattle.crc.proofs.Xor.{digit, xor-swap}
+use Rattle.crc.proofs.Starts.{crc-append, start-met, start-adds}
+use Rattle.crc.proofs.Xor.{digit, xor-swap, xor-up}
 
 -- as `crc_byte` computes it
 abbrev byte_folded : ℕ → ℕ
@@ -37,9 +40,6 @@ byte_step_lem b h = eqb→eq (byte_step b) (crc 0 (b ∷ [])) (below byte_right 
 
 abbrev Linear : (ℕ → ℕ) → Type 0
 Linear F = (a b : ℕ) → F (bit_xor a b) ≡ bit_xor (F a) (F b)
-
-up : (k : ℕ) → Linear (λ (n : ℕ). n * 2 ^ k)
-up k a b = sym (simp add-zero at (xor_block k a b 0 0 (pow_pos k) (pow_pos k)))
 
 sum : (F G : ℕ → ℕ) → Linear F → Linear G → Linear (λ (n : ℕ). bit_xor (F n) (G n))
 sum F G p q a b = ap₂ bit_xor (p a b) (q a b) ∙ xor-swap (F a) (F b) (G a) (G b)
@@ -76,7 +76,7 @@ low-linear : (k : ℕ) → Linear (λ (w : ℕ). w % 2 ^ k)
 low-linear k a b = xor_mod a b k
 
 shl-linear : (k : ℕ) → Linear (λ (w : ℕ). w * 2 ^ k % 2 ^ 32)
-shl-linear k = after (λ (w : ℕ). w * 2 ^ k) (λ (w : ℕ). w % 2 ^ 32) (up k) (low-linear 32)
+shl-linear k = after (λ (w : ℕ). w * 2 ^ k) (λ (w : ℕ). w % 2 ^ 32) (xor-up k) (low-linear 32)
 
 byte-linear : (k : ℕ) → Linear (λ (w : ℕ). w / 2 ^ k % 2 ^ 8)
 byte-linear k = after (λ (w : ℕ). w / 2 ^ k) (λ (w : ℕ). w % 2 ^ 8) (shr-linear k) (low-linear 8)
@@ -226,7 +226,7 @@ six_rest n = six_last (folded_at 8 1 2 (folded_at 16 2 4 n))
 six_once-linear : Linear six_once
 six_once-linear =
     spread-linear 4 8 (λ (m : ℕ). m % 2 ^ 24 * 2 ^ 8) (λ (m : ℕ). m / 2 ^ 24)
-    (after (λ (m : ℕ). m % 2 ^ 24) (λ (m : ℕ). m * 2 ^ 8) (low-linear 24) (up 8))
+    (after (λ (m : ℕ). m % 2 ^ 24) (λ (m : ℕ). m * 2 ^ 8) (low-linear 24) (xor-up 8))
     (shr-linear 24)
 
 six_last-linear : Linear six_last
@@ -278,23 +278,12 @@ six-of a b c d e f ha hb hc hd he hf =
     ∙ ap₂ crc_byte (ap₂ crc_byte (ap crc_word ew ∙ word_of a b c d ha hb hc hd) ee) ef
 
 -- the start is added to the first byte
-start-added : (s a b c : ℕ) → b < 256 → c < 256 → bit_xor (a * 65536 + b * 256 + c) (s * 65536) ≡ bit_xor s a * 65536 + b * 256 + c
-start-added s a b c hb hc =
-    let low = b * 256 + c in
-    let l : a * 65536 + b * 256 + c ≡ a * 65536 + low = omega arith in
-    let r : s * 65536 ≡ s * 65536 + 0 = omega arith in
-    let back : bit_xor s a * 65536 + low ≡ bit_xor s a * 65536 + b * 256 + c = omega arith in
-    ap₂ bit_xor l r
-    ∙ xor_block 16 a s low 0 (omega arith) (pow_pos 16)
-    ∙ ap₂ (λ (x y : ℕ). x * 65536 + y) (xor_comm a s) (xor_zero_r low)
-    ∙ back
-
-pub six-from : (s a b c d e f : ℕ) → s < 256 → a < 256 → b < 256 → c < 256 → d < 256 → e < 256 → f < 256
-    → six_rest (spread 4 8 (d * 16777216 + e * 65536 + f * 256) (bit_xor (a * 65536 + b * 256 + c) (s * 65536))) ≡ crc s (a ∷ b ∷ c ∷ d ∷ e ∷ f ∷ [])
-six-from s a b c d e f hs ha hb hc hd he hf =
-    ap (λ (t : ℕ). six_rest (spread 4 8 (d * 16777216 + e * 65536 + f * 256) t)) (start-added s a b c hb hc)
-    ∙ six-of (bit_xor s a) b c d e f (xor_lt 8 s a hs ha) hb hc hd he hf
-    ∙ start-met s a (b ∷ c ∷ d ∷ e ∷ f ∷ [])
+pub six-from : (s a b c d e f top low : ℕ) → s < 256 → a < 256 → b < 256 → c < 256 → d < 256 → e < 256 → f < 256
+    → top ≡ bit_xor s a * 65536 + b * 256 + c
+    → low ≡ d * 16777216 + e * 65536 + f * 256
+    → six_rest (spread 4 8 low top) ≡ crc s (a ∷ b ∷ c ∷ d ∷ e ∷ f ∷ [])
+six-from s a b c d e f top low hs ha hb hc hd he hf t l =
+    rw (t, l) (six-of (bit_xor s a) b c d e f (xor_lt 8 s a hs ha) hb hc hd he hf ∙ start-met s a (b ∷ c ∷ d ∷ e ∷ f ∷ []))
 
 -- the CRC goes on over bytes: the word as many bytes on is added to theirs
 word_on : (w l v : ℕ) (bs : List ℕ) → crc_word l ≡ crc (crc_word w) (replicate (length bs) 0) → crc_word v ≡ crc 0 bs
@@ -305,59 +294,65 @@ word_on w l v bs p q = word-linear l v ∙ ap₂ bit_xor p q ∙ sym (start-adds
 next : (s : List ℕ) (i k : ℕ) → i < length s → suc i ≡ k → drop i s ≡ get_or s i 0 ∷ drop k s
 next s i k h e = rw (drop-cons s i 0, e)
 
-pub four-on : (s : List ℕ) (i w l v : ℕ) → i + 4 ≤ length s → crc_word l ≡ crc (crc_word w) (replicate 4 0)
-    → crc_word v ≡ crc 0 (get_or s i 0 ∷ get_or s (i + 1) 0 ∷ get_or s (i + 2) 0 ∷ get_or s (i + 3) 0 ∷ [])
-    → crc (crc_word (bit_xor l v)) (drop (i + 4) s) ≡ crc (crc_word w) (drop i s)
-four-on s i w l v h p q =
-    let e0 = next s i (i + 1) (omega arith) (omega arith) in
-    let e1 = next s (i + 1) (i + 2) (omega arith) (omega arith) in
-    let e2 = next s (i + 2) (i + 3) (omega arith) (omega arith) in
-    let e3 = next s (i + 3) (i + 4) (omega arith) (omega arith) in
-    let on = word_on w l v (get_or s i 0 ∷ get_or s (i + 1) 0 ∷ get_or s (i + 2) 0 ∷ get_or s (i + 3) 0 ∷ []) p q in
-    rw (e0, e1, e2, e3) (ap (λ (r : ℕ). crc r (drop (i + 4) s)) on)
+-- chunks of a list, joined, and what is left after them are the list
+pub joined : (n k : ℕ) (s : List ℕ) → concat (first_chunks n k s) ++ drop (k * n) s ≡ s
+joined n zero s = rw zero-mul
+joined n (suc k) s =
+    append_assoc (take n s) (concat (first_chunks n k (drop n s))) (drop (suc k * n) s)
+    ∙ ap (λ (l : List ℕ). take n s ++ (concat (first_chunks n k (drop n s)) ++ l)) (ap (λ (m : ℕ). drop m s) (omega arith) ∙ sym (drop-drop (k * n) n s))
+    ∙ ap (λ (l : List ℕ). take n s ++ l) (joined n k (drop n s))
+    ∙ take-append-drop n s
+
+-- each of the chunks is full
+pub full : (n k : ℕ) (s : List ℕ) (i : ℕ) → i < k → k * n ≤ length s → length (get_or (first_chunks n k s) i []) ≡ n
+full n zero s i h l = absurd (let z : ⊥ = omega arith in z)
+full n (suc k) s zero h l = length-take-le n s (omega arith)
+full n (suc k) s (suc i) h l = full n k (drop n s) i (omega arith) (omega (arith, length-drop n s))
+
+-- four bytes more, the first of those that are left
+pub four-on : (fours : List (List ℕ)) (i : ℕ) (rest : List ℕ) (w l v : ℕ) → i < length fours → length (get_or fours i []) ≡ 4
+    → crc_word l ≡ crc (crc_word w) (replicate 4 0)
+    → crc_word v ≡ crc 0 (get_or fours i [])
+    → crc (crc_word (bit_xor l v)) (concat (drop (i + 1) fours) ++ rest) ≡ crc (crc_word w) (concat (drop i fours) ++ rest)
+four-on fours i rest w l v h n p q =
+    let f = get_or fours i [] in
+    let after = concat (drop (i + 1) fours) ++ rest in
+    ap (λ (r : ℕ). crc r after) (word_on w l v f (rw n p) q)
+    ∙ sym (crc-append (crc_word w) f after)
+    ∙ ap (crc (crc_word w)) (sym (append_assoc f (concat (drop (i + 1) fours)) rest))
+    ∙ ap (λ (l : List (List ℕ)). crc (crc_word w) (concat l ++ rest)) (sym (drop_more fours i [] h))
 
 -- a byte of 0 leaves a register of 0 as it is
 unchanged : crc_byte 0 0 ≡ 0
 unfolding crc_byte
 unchanged = refl
 
--- no byte leaves the start as it is
-pub none : (start : ℕ) (s : List ℕ) → length s ≡ 0 → start ≡ crc start s
-none start [] h = refl
-none start (b ∷ bs) h = absurd (let z : ⊥ = omega arith in z)
-
 -- the first byte, which the start is added to, taken by itself
-pub first_on : (start w : ℕ) (s : List ℕ) → 0 < length s → crc_word w ≡ crc 0 (0 ∷ 0 ∷ 0 ∷ bit_xor start (get_or s 0 0) ∷ [])
-    → crc (crc_word w) (drop 1 s) ≡ crc start s
-first_on start w [] h q = absurd (let z : ⊥ = omega arith in z)
-first_on start w (b ∷ bs) h q =
+pub first_on : (start w b : ℕ) (bs : List ℕ) → crc_word w ≡ crc 0 (0 ∷ 0 ∷ 0 ∷ bit_xor start b ∷ []) → crc (crc_word w) bs ≡ crc start (b ∷ bs)
+first_on start w b bs q =
     ap (λ (r : ℕ). crc r bs) (q ∙ rw (unchanged, unchanged, unchanged) (start-met start b []))
 
-module _ (s : List ℕ) (i w : ℕ) where
-  pub rest-none : length s ≤ i → crc_word w ≡ crc (crc_word w) (drop i s)
-  rest-none h = rw (drop_of_length-le s h)
+module _ (s : List ℕ) (w l v : ℕ) where
+  pub rest-one : length s ≡ 1 → crc_word l ≡ crc (crc_word w) (replicate 1 0)
+      → crc_word v ≡ crc 0 (0 ∷ 0 ∷ 0 ∷ get_or s 0 0 ∷ []) → crc_word (bit_xor l v) ≡ crc (crc_word w) s
+  rest-one h p q =
+      let e0 = next s 0 1 (omega arith) refl in
+      let e = drop_of_length-le s {i = 1} (omega arith) in
+      rw (e0, e) (word_on w l v (get_or s 0 0 ∷ []) p (rw (unchanged, unchanged, unchanged) at q))
 
-  module _ (l v : ℕ) where
-    pub rest-one : length s ≡ i + 1 → crc_word l ≡ crc (crc_word w) (replicate 1 0)
-        → crc_word v ≡ crc 0 (0 ∷ 0 ∷ 0 ∷ get_or s i 0 ∷ []) → crc_word (bit_xor l v) ≡ crc (crc_word w) (drop i s)
-    rest-one h p q =
-        let e0 = next s i (i + 1) (omega arith) (omega arith) in
-        let e = drop_of_length-le s {i = i + 1} (omega arith) in
-        rw (e0, e) (word_on w l v (get_or s i 0 ∷ []) p (rw (unchanged, unchanged, unchanged) at q))
+  pub rest-two : length s ≡ 2 → crc_word l ≡ crc (crc_word w) (replicate 2 0)
+      → crc_word v ≡ crc 0 (0 ∷ 0 ∷ get_or s 0 0 ∷ get_or s 1 0 ∷ []) → crc_word (bit_xor l v) ≡ crc (crc_word w) s
+  rest-two h p q =
+      let e0 = next s 0 1 (omega arith) refl in
+      let e1 = next s 1 2 (omega arith) refl in
+      let e = drop_of_length-le s {i = 2} (omega arith) in
+      rw (e0, e1, e) (word_on w l v (get_or s 0 0 ∷ get_or s 1 0 ∷ []) p (rw (unchanged, unchanged) at q))
 
-    pub rest-two : length s ≡ i + 2 → crc_word l ≡ crc (crc_word w) (replicate 2 0)
-        → crc_word v ≡ crc 0 (0 ∷ 0 ∷ get_or s i 0 ∷ get_or s (i + 1) 0 ∷ []) → crc_word (bit_xor l v) ≡ crc (crc_word w) (drop i s)
-    rest-two h p q =
-        let e0 = next s i (i + 1) (omega arith) (omega arith) in
-        let e1 = next s (i + 1) (i + 2) (omega arith) (omega arith) in
-        let e = drop_of_length-le s {i = i + 2} (omega arith) in
-        rw (e0, e1, e) (word_on w l v (get_or s i 0 ∷ get_or s (i + 1) 0 ∷ []) p (rw (unchanged, unchanged) at q))
-
-    pub rest-three : length s ≡ i + 3 → crc_word l ≡ crc (crc_word w) (replicate 3 0)
-        → crc_word v ≡ crc 0 (0 ∷ get_or s i 0 ∷ get_or s (i + 1) 0 ∷ get_or s (i + 2) 0 ∷ []) → crc_word (bit_xor l v) ≡ crc (crc_word w) (drop i s)
-    rest-three h p q =
-        let e0 = next s i (i + 1) (omega arith) (omega arith) in
-        let e1 = next s (i + 1) (i + 2) (omega arith) (omega arith) in
-        let e2 = next s (i + 2) (i + 3) (omega arith) (omega arith) in
-        let e = drop_of_length-le s {i = i + 3} (omega arith) in
-        rw (e0, e1, e2, e) (word_on w l v (get_or s i 0 ∷ get_or s (i + 1) 0 ∷ get_or s (i + 2) 0 ∷ []) p (rw unchanged at q))
+  pub rest-three : length s ≡ 3 → crc_word l ≡ crc (crc_word w) (replicate 3 0)
+      → crc_word v ≡ crc 0 (0 ∷ get_or s 0 0 ∷ get_or s 1 0 ∷ get_or s 2 0 ∷ []) → crc_word (bit_xor l v) ≡ crc (crc_word w) s
+  rest-three h p q =
+      let e0 = next s 0 1 (omega arith) refl in
+      let e1 = next s 1 2 (omega arith) refl in
+      let e2 = next s 2 3 (omega arith) refl in
+      let e = drop_of_length-le s {i = 3} (omega arith) in
+      rw (e0, e1, e2, e) (word_on w l v (get_or s 0 0 ∷ get_or s 1 0 ∷ get_or s 2 0 ∷ []) p (rw unchanged at q))

@@ -1,7 +1,7 @@
 // The CRC-8 of trigger packets and slow-control frames.
 #![tactic(auto)]
 
-ghost use Rattle.std.specs.Prelude.{◌+◌, ◌≤◌, ◌≡◌, [], ◌∷◌, length, drop, replicate};
+ghost use Rattle.std.specs.Prelude.{◌+◌, ◌≤◌, ◌≡◌, [], ◌∷◌, length, replicate};
 ghost use Rattle.crc.specs.Crc.{crc};
 ghost use Rattle.crc.specs.CodeShape.{crc_word};
 
@@ -48,22 +48,22 @@ fn bytes_on(word: u32, count: usize) -> u32
 }
 
 // Four bytes as a word.
-fn word_of(a: u8, b: u8, c: u8, d: u8) -> u32
-    ensures { crc_word result ≡ crc 0 (a ∷ b ∷ c ∷ d ∷ []) }
+fn word_of(bytes: [u8; 4]) -> u32
+    ensures { crc_word result ≡ crc 0 bytes }
 {
-    a as u32 * 16777216 + b as u32 * 65536 + c as u32 * 256 + d as u32
+    u32::from_be_bytes(bytes)
 }
 
-// A word whose CRC goes on over the bytes from a place on, fewer than four. Bytes of 0 in front leave a register of 0 as it is.
-fn rest_on(word: u32, bytes: &[u8], from: usize) -> u32
-    requires { (from ≤ length bytes.now) × (length bytes.now ≤ from + 3) }
-    ensures { crc_word result ≡ crc (crc_word word) (drop from bytes.now) }
+// A word whose CRC goes on over the last bytes, fewer than four. Bytes of 0 in front leave a register of 0 as it is.
+fn rest_on(word: u32, rest: &[u8]) -> u32
+    requires { length rest.now ≤ 3 }
+    ensures { crc_word result ≡ crc (crc_word word) rest.now }
 {
-    match bytes.len() - from {
-        0 => word,
-        1 => bytes_on(word, 1) ^ word_of(0, 0, 0, bytes[from]),
-        2 => bytes_on(word, 2) ^ word_of(0, 0, bytes[from], bytes[from + 1]),
-        _ => bytes_on(word, 3) ^ word_of(0, bytes[from], bytes[from + 1], bytes[from + 2]),
+    match rest {
+        [] => word,
+        [a] => bytes_on(word, 1) ^ word_of([0, 0, 0, *a]),
+        [a, b] => bytes_on(word, 2) ^ word_of([0, 0, *a, *b]),
+        [a, b, c, ..] => bytes_on(word, 3) ^ word_of([0, *a, *b, *c]),
     }
 }
 
@@ -71,16 +71,15 @@ fn rest_on(word: u32, bytes: &[u8], from: usize) -> u32
 pub fn crc8(start: u8, bytes: &[u8]) -> u8
     ensures { result ≡ crc start bytes.now }
 {
-    if bytes.len() == 0 {
+    let Some((first, others)) = bytes.split_first() else {
         return start;
+    };
+    let mut word = word_of([0, 0, 0, start ^ *first]);
+    let (fours, rest) = others.as_chunks::<4>();
+    for four in fours {
+        word = four_bytes_on(word) ^ word_of(*four);
     }
-    let mut word = word_of(0, 0, 0, start ^ bytes[0]);
-    let mut i = 1;
-    while bytes.len() - i >= 4 {
-        word = four_bytes_on(word) ^ word_of(bytes[i], bytes[i + 1], bytes[i + 2], bytes[i + 3]);
-        i += 4;
-    }
-    crc_word(rest_on(word, bytes, i))
+    crc_word(rest_on(word, rest))
 }
 
 // The CRC of six bytes from a start, as a trigger packet has them. The start is added to the first byte; then, with a byte of 0 after them, all from
@@ -88,9 +87,8 @@ pub fn crc8(start: u8, bytes: &[u8]) -> u8
 pub fn crc_of_six(start: u8, a: u8, b: u8, c: u8, d: u8, e: u8, f: u8) -> u8
     ensures { result ≡ crc start (a ∷ b ∷ c ∷ d ∷ e ∷ f ∷ []) }
 {
-    let first = (a as u32) * 65536 + (b as u32) * 256 + (c as u32);
-    let top = first ^ ((start as u32) * 65536);
-    let low = (d as u32) * 16777216 + (e as u32) * 65536 + (f as u32) * 256;
+    let top = u32::from_be_bytes([0, start ^ a, b, c]);
+    let low = u32::from_be_bytes([d, e, f, 0]);
     let once = low ^ top ^ (top << 4) ^ (top << 8);
     let second = once >> 16;
     let twice = (once % 65536) ^ second ^ (second << 2) ^ (second << 4);

@@ -7,7 +7,8 @@ use Rattle.packets.specs.declared.Fields.{Fields}
 use Rattle.packets.specs.declared.Packet.{Packet}
 use Rattle.packet_reader.specs.Reading.{packet_answer}
 use Rattle.configuration.specs.Configuration.{begin_of}
-use Rattle.command_reader.specs.Reading.{Taken, taken, command_answer}
+use Rattle.command_reader.specs.declared.Taken.{Taken}
+use Rattle.command_reader.specs.Reading.{taken, command_answer}
 use Rattle.commands.specs.declared.RunLength.TheVariants.{Counted}
 use Rattle.commands.specs.declared.Command.TheVariants.{Write, Start, CrateReset}
 use Rattle.command_writer.specs.Writing.{five_words}

@@ -7,9 +7,9 @@ use mathlib.Core.List.{List, [], ◌∷◌, ◌++◌}
 use native.Mathlib.Omega.{arith}
 use lib.ListN.{length, take, get_or, length-append}
 use borrow.Author.Tests.{eq-eqb, le-ltb, eqb-true, not-false}
-use Rattle.refusals.specs.Tables.{Rule, lowest}
-use Rattle.refusals.specs.Writing.{too_short, written_meaning, Wrote}
-use Rattle.refusals.specs.declared.Written.{Written}
+use Rattle.std.specs.Prelude.{Result}
+use Rattle.refusals.specs.Tables.{Rule, lowest, answer_of}
+use Rattle.refusals.specs.Writing.{too_short, Wrote}
 use Rattle.refusals.proofs.Tables.{Clear, row-off}
 use Rattle.words.specs.Words.{words_in}
 use Rattle.blocks.specs.Blocks.{header_words, temperature_rules, wrong_id, block_rules, WroteBlock}
@@ -19,12 +19,11 @@ use Rattle.blocks.proofs.Dynamic.{length-dynamic}
 use Rattle.ftu_list.specs.List.{list_body}
 use Rattle.ftu_list.proofs.Laws.{length-body}
 use Rattle.steps.proofs.Lengths.{step-length}
-use Rattle.four_crates.specs.FourCrates.{sent_meaning}
-use Rattle.four_crates.specs.declared.FramesSent.{FramesSent}
 use Rattle.four_crates.proofs.Entries.{forty}
 use Rattle.board.specs.State.{finished_rates}
 use Rattle.board.specs.SlowControl.{fetch_rules, frame_at, sent_answer}
-use Rattle.board.specs.SentOut.{header_of, dynamic_body_of, list_rules, list_of, failure_rules, failure_body_of, SendsStatic, SendsDynamic, SendsList, SendsFailure}
+use Rattle.board.specs.SentOut.{header_of, dynamic_body_of, list_rules, list_of, failure_rules, failure_body_of}
+use Rattle.board.specs.SentOut.{SendsStatic, SendsDynamic, SendsList, SendsFailure}
 use Rattle.board.specs.declared.Board.{Board}
 use Rattle.texts.specs.Texts.{Printed, question, in_bytes, in_words}
 use Rattle.texts.specs.declared.Response.{Response}
@@ -34,11 +33,12 @@ use Rattle.responses.proofs.Writing.{table-response, due-response}
 use Rattle.script.specs.Forms.{taking, one_byte, no_byte, any_words}
 use Rattle.exchange.specs.Orders.{Order, other_form, first_frame, frames_sent, static, ftu_list, failure, dynamic}
 use Rattle.exchange.specs.Exchange.{block_printed, sent_printed, printed_answer}
+use Rattle.refusals.specs.declared.Refusal.{Refusal}
 
 -- ---- what is printed of a block that was written: 19 is left out, where the lent words have room for it
 pub block-response : (print : List ℕ → Printed) (own : List Rule) (n : ℕ) (h : Header) (body out : List ℕ)
-    → (Clear own → length (header_words h ++ body) ≤ length out) → (after : List ℕ) (w : Written) → WroteBlock own n h body out w after
-    → written_printed (λ n. print (take n after)) (written_meaning w) ≡ due_printed print (lowest (own ++ (wrong_id h ∷ [])) (header_words h ++ body))
+    → (Clear own → length (header_words h ++ body) ≤ length out) → (after : List ℕ) (w : Result ℕ Refusal) → WroteBlock own n h body out w after
+    → written_printed (λ n. print (take n after)) (answer_of w) ≡ due_printed print (lowest (own ++ (wrong_id h ∷ [])) (header_words h ++ body))
 unfolding block_rules
 block-response print own n h body out room after w b =
     table-response print (block_rules own h body out) (header_words h ++ body) out after w b.wrote
@@ -74,9 +74,9 @@ question-response β t o e = sym (ap (λ (u : Bool). printed_answer β (taking o
 -- ---- what each is answered
 
 module _ (β : Board) (b : List ℕ) (s : Response) where
-  module _ (out after : List ℕ) (w : Written) where
+  module _ (out after : List ℕ) (w : Result ℕ Refusal) where
     pub frame-asked : length b ≡ 1 → length out ≡ 28 → Wrote (fetch_rules β (get_or b 0 0)) (frame_at β (get_or b 0 0)) out w after
-        → PrintsWrittenBytes s (written_meaning w) → PrintsInBytes s after (printed_answer β (one_byte other_form first_frame b))
+        → PrintsWrittenBytes s (answer_of w) → PrintsInBytes s after (printed_answer β (one_byte other_form first_frame b))
     unfolding printed_answer
     frame-asked l n h k words =
         let d = length-frame β (get_or b 0 0) in
@@ -87,7 +87,7 @@ module _ (β : Board) (b : List ℕ) (s : Response) where
     -- ---- a block, of at most 487 words after the header, that the order o, which is p, asks for
     block-asked : length out ≡ 498 → (own : List Rule) (n : ℕ) (body : List ℕ) → (Clear own → length body ≤ 487)
         → WroteBlock own n (header_of β) body out w after → (o p : Order) → o ≡ p → printed_answer β p ≡ block_printed β own body
-        → PrintsWrittenWords s (written_meaning w) → PrintsInWords s after (printed_answer β o)
+        → PrintsWrittenWords s (answer_of w) → PrintsInWords s after (printed_answer β o)
     block-asked size own n body short h o p e q k bytes =
         k bytes after
         ∙ block-response in_words own n (header_of β) body out
@@ -96,32 +96,32 @@ module _ (β : Board) (b : List ℕ) (s : Response) where
         ∙ sym (ap (printed_answer β) e)
 
     pub static-asked : length b ≡ 0 → length out ≡ 498 → length β.block ≡ 436 → SendsStatic β out w after
-        → PrintsWrittenWords s (written_meaning w) → PrintsInWords s after (printed_answer β (no_byte other_form static b))
+        → PrintsWrittenWords s (answer_of w) → PrintsInWords s after (printed_answer β (no_byte other_form static b))
     unfolding printed_answer
     static-asked l n m h k = block-asked n _ 436 β.block (λ _. omega arith) h _ _ (taken _ _ (eq-eqb _ _ l)) refl k
 
     pub list-asked : length b ≡ 0 → length out ≡ 498 → SendsList β out w after
-        → PrintsWrittenWords s (written_meaning w) → PrintsInWords s after (printed_answer β (no_byte other_form ftu_list b))
+        → PrintsWrittenWords s (answer_of w) → PrintsInWords s after (printed_answer β (no_byte other_form ftu_list b))
     unfolding printed_answer
     list-asked l n h k =
         let d = length-list β in
         block-asked n (list_rules β) 249 (list_body (list_of β)) (λ _. omega arith) h _ _ (taken _ _ (eq-eqb _ _ l)) refl k
 
     pub failure-asked : length b ≡ 1 → length out ≡ 498 → SendsFailure β (get_or b 0 0) out w after
-        → PrintsWrittenWords s (written_meaning w) → PrintsInWords s after (printed_answer β (one_byte other_form failure b))
+        → PrintsWrittenWords s (answer_of w) → PrintsInWords s after (printed_answer β (one_byte other_form failure b))
     unfolding printed_answer
     failure-asked l n h k =
         let d = length-failure β (get_or b 0 0) in
         block-asked n (failure_rules β (get_or b 0 0)) 29 (failure_body_of β (get_or b 0 0)) (λ _. omega arith) h _ _ (taken _ _ (eq-eqb _ _ l)) refl k
 
     pub dynamic-asked : length b % 2 ≡ 0 → length out ≡ 498 → (t : List ℕ) → t ≡ words_in b → SendsDynamic β t out w after
-        → PrintsWrittenWords s (written_meaning w) → PrintsInWords s after (printed_answer β (any_words other_form dynamic b))
+        → PrintsWrittenWords s (answer_of w) → PrintsInWords s after (printed_answer β (any_words other_form dynamic b))
     unfolding printed_answer
     dynamic-asked l n t et h k =
         block-asked n (temperature_rules t) 487 (dynamic_body_of β t) (λ clear. let d = length-sent β t h.long clear in omega arith) h.block _ _
         (taken _ _ (eq-eqb _ _ l) ∙ sym (ap dynamic et)) refl k
 
-  module _ (l : length b ≡ 1) (f : FramesSent) (e : sent_meaning f ≡ sent_answer β (get_or b 0 0)) where
-    pub sent-asked : Prints s (sent_printed (sent_meaning f)) → Prints s (printed_answer β (one_byte other_form frames_sent b))
+  module _ (l : length b ≡ 1) (f : Result ℕ Refusal) (e : answer_of f ≡ sent_answer β (get_or b 0 0)) where
+    pub sent-asked : Prints s (sent_printed (answer_of f)) → Prints s (printed_answer β (one_byte other_form frames_sent b))
     unfolding printed_answer
     sent-asked k bytes words = k bytes words ∙ ap sent_printed e ∙ sym (ap (printed_answer β) (taken _ _ (eq-eqb _ _ l)))

@@ -8,9 +8,10 @@ use native.Mathlib.Omega.{arith}
 use lib.Dec.{ltb}
 use lib.ListN.{length, get_or, set, take, drop, drop_of_length-le}
 use borrow.Author.Tests.{eq-eqb}
+use Rattle.std.specs.Prelude.{Result, Ok, Err}
 use Rattle.refusals.specs.Refusals.{number_of, place_of}
-use Rattle.refusals.specs.Tables.{Answer, given, refused, rule, lowest}
-use Rattle.refusals.specs.Writing.{written_meaning, output_after}
+use Rattle.refusals.specs.Tables.{Answer, given, refused, rule, lowest, answer_of}
+use Rattle.refusals.specs.Writing.{output_after}
 use Rattle.refusals.specs.declared.Refusal.{Refusal}
 use Rattle.refusals.proofs.Tables.{given-same}
 use Rattle.refusals.proofs.Writing.{room-writing}
@@ -21,7 +22,6 @@ use Rattle.words.proofs.Bytes.{length-words}
 use Rattle.words.proofs.Front.{number_in}
 use Rattle.packets.specs.Packets.{first_six, packet_bytes}
 use Rattle.packets.specs.declared.Fields.{Fields}
-use Rattle.acceptance.specs.Acceptance.{answer_meaning}
 use Rattle.configuration.specs.Configuration.{active_word}
 use Rattle.steps.specs.Steps.{step_frame}
 use Rattle.steps.specs.declared.Event.{Event}
@@ -29,19 +29,15 @@ use Rattle.steps.specs.declared.Event.TheVariants.{Reply, TimeUp}
 use Rattle.steps.specs.declared.Judged.{Judged}
 use Rattle.steps.proofs.Lengths.{step-length}
 use Rattle.run.specs.Run.{clocked_run, trigger_number, trigger_rules, after_answer}
-use Rattle.crate_pass.specs.Crate.{is_done, says_done, reply_meaning, unless_refused, frame_due, no_such_crate, served_answer}
+use Rattle.crate_pass.specs.Crate.{is_done, says_done, unless_refused, frame_due, no_such_crate, served_answer}
 use Rattle.crate_pass.specs.declared.Outcome.{Outcome}
 use Rattle.crate_pass.proofs.Serving.{moved-done}
-use Rattle.board.specs.State.{crate_at, with_crates, with_run, board_for, power_up_meaning, power_up_answer, PowersUp}
+use Rattle.board.specs.State.{crate_at, with_crates, with_run, board_for, power_up_answer, PowersUp}
 use Rattle.board.specs.Commands.{Obeys, TriggersOn}
 use Rattle.board.specs.SlowControl.{judged_at, moved_at, reply_rules, reply_answer, board_replied, bytes_replied, Replies}
-use Rattle.board.specs.RatePass.{begun_meaning, Begins}
+use Rattle.board.specs.RatePass.{Begins}
 use Rattle.board.specs.declared.Board.{Board}
-use Rattle.board.specs.declared.PassBegun.{PassBegun}
-use Rattle.board.specs.declared.PassBegun.TheVariants.{Begun}
-use Rattle.board.specs.declared.PassBegun.TheVariants as passBegun
 use Rattle.board.specs.declared.BeginResult.{BeginResult}
-use Rattle.board.specs.declared.PowerUp.TheVariants.{Up, Refused}
 use Rattle.board.specs.declared.PowerUpResult.{PowerUpResult}
 use Rattle.board.specs.declared.CommandResult.{CommandResult}
 use Rattle.board.specs.declared.TriggerResult.{TriggerResult}
@@ -102,28 +98,28 @@ module _ (β : Board) (b w : List ℕ) (l : length b ≡ 10) (e : w ≡ words_in
   power-up-as : power_up id (get_or w 4 0) ≡ power_up_order b
   power-up-as = ap (λ (n : ℕ). power_up n (get_or w 4 0)) ei ∙ power-up-is b w l e
 
-  pub powered-up : up.answer ≡ Up → Answers β (power_up_order b) (answered (One 0) up.board)
+  pub powered-up : up.answer ≡ Ok tt → Answers β (power_up_order b) (answered (One 0) up.board)
   unfolding printed_answer board_after_order
   powered-up q =
-      let a : power_up_answer id ≡ given tt = sym h.answer ∙ ap power_up_meaning q in
+      let a : power_up_answer id ≡ given tt = sym h.answer ∙ ap answer_of q in
       answers-as β _ _ _ power-up-as
       (record {
         response = λ bytes words. sym (ap accepted_printed a);
         board = h.board ∙ ap (λ (x : Answer Unit). board_for x id (get_or w 4 0)) a ∙ sym (ap (after_power_up β id (get_or w 4 0)) a);
       })
 
-  pub power-up-refused : (r : Refusal) (s : Response) → up.answer ≡ Refused r → Prints s (refusal_printed (number_of r) (place_of r))
+  pub power-up-refused : (r : Refusal) (s : Response) → up.answer ≡ Err r → Prints s (refusal_printed (number_of r) (place_of r))
       → Answers β (power_up_order b) (answered s β)
   unfolding printed_answer board_after_order
   power-up-refused r s q k =
-      let a : power_up_answer id ≡ refused (number_of r) (place_of r) = sym h.answer ∙ ap power_up_meaning q in
+      let a : power_up_answer id ≡ refused (number_of r) (place_of r) = sym h.answer ∙ ap answer_of q in
       answers-as β _ _ _ power-up-as
       (record { response = λ bytes words. k bytes words ∙ sym (ap accepted_printed a); board = sym (ap (after_power_up β id (get_or w 4 0)) a) })
 
 -- ---- C
 
 pub commanded : (β : Board) (b w : List ℕ) (s : Response) (d : CommandResult) → length b % 2 ≡ 0 → w ≡ words_in b → Obeys β w d
-    → Prints s (command_printed d.used (answer_meaning d.answer)) → Answers β (any_words other_form command b) (answered s d.board)
+    → Prints s (command_printed d.used (answer_of d.answer)) → Answers β (any_words other_form command b) (answered s d.board)
 unfolding printed_answer board_after_order
 commanded β b w s d l e h k =
     answers-as β (command w) (any_words other_form command b) _ (ap command e ∙ sym (taken _ _ (eq-eqb _ _ l)))
@@ -146,7 +142,7 @@ unfolding first_six
 length-packet n f = refl
 
 pub triggered : (β : Board) (b out after : List ℕ) (s : Response) (t : Bool) (f : Fields) (g : TriggerResult) → t ≡ are_fields b → t ≡ true → f ≡ fields_from b
-    → length out ≡ 28 → TriggersOn β f out g after → PrintsWrittenBytes s (written_meaning g.answer)
+    → length out ≡ 28 → TriggersOn β f out g after → PrintsWrittenBytes s (answer_of g.answer)
     → AnswersInBytes β (trigger_order b) (answered s g.board) after
 unfolding printed_answer board_after_order
 triggered β b out after s t f g et h ef n x k =
@@ -202,7 +198,7 @@ module _ (β : Board) (c : ℕ) (h : Judged) where
     event-printed s after (refused n p) e q k words = k after words
 
 pub handed-in : (β : Board) (c : ℕ) (event : Event) (bytes out after : List ℕ) (s : Response) (r : ReplyResult) → length out ≡ 28
-    → Replies β c (judged_at β c event bytes) out r after → PrintsOutcome s (reply_meaning r.answer)
+    → Replies β c (judged_at β c event bytes) out r after → PrintsOutcome s (answer_of r.answer)
     → AnswersInBytes β (event_order event c bytes) (answered s r.board) after
 unfolding printed_answer board_after_order
 handed-in β c event bytes out after s r size x k =
@@ -232,15 +228,15 @@ module _ (β : Board) (b after : List ℕ) (a : Answered) where
 -- ---- B
 
 module _ (β : Board) (b : List ℕ) (l : length b ≡ 0) (r : BeginResult) (h : Begins β r) where
-  began : (s : Response) → Prints s (accepted_printed (begun_meaning r.answer)) → Answers β (no_byte other_form begin_rates b) (answered s r.board)
+  began : (s : Response) → Prints s (accepted_printed (answer_of r.answer)) → Answers β (no_byte other_form begin_rates b) (answered s r.board)
   unfolding printed_answer board_after_order
   began s k =
       answers-as β _ _ _ (sym (taken _ _ (eq-eqb _ _ l)))
       (record { response = λ bytes words. k bytes words ∙ ap accepted_printed h.answer; board = h.board })
 
-  pub rates-begun : r.answer ≡ Begun → Answers β (no_byte other_form begin_rates b) (answered (One 0) r.board)
-  rates-begun q = began (One 0) (λ bytes words. sym (ap (λ (x : PassBegun). accepted_printed (begun_meaning x)) q))
+  pub rates-begun : r.answer ≡ Ok tt → Answers β (no_byte other_form begin_rates b) (answered (One 0) r.board)
+  rates-begun q = began (One 0) (λ bytes words. sym (ap (λ (x : Result Unit Refusal). accepted_printed (answer_of x)) q))
 
-  pub rates-refused : (x : Refusal) (s : Response) → r.answer ≡ passBegun.Refused x → Prints s (refusal_printed (number_of x) (place_of x))
+  pub rates-refused : (x : Refusal) (s : Response) → r.answer ≡ Err x → Prints s (refusal_printed (number_of x) (place_of x))
       → Answers β (no_byte other_form begin_rates b) (answered s r.board)
-  rates-refused x s q k = began s (λ bytes words. k bytes words ∙ sym (ap (λ (y : PassBegun). accepted_printed (begun_meaning y)) q))
+  rates-refused x s q k = began s (λ bytes words. k bytes words ∙ sym (ap (λ (y : Result Unit Refusal). accepted_printed (answer_of y)) q))

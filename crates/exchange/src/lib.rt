@@ -13,9 +13,8 @@ ghost use Rattle.exchange.specs.Orders.{are_flags, are_fields, fields_from, powe
 ghost use Rattle.exchange.specs.Exchange.{printed_answer, ServesLine};
 ghost use Rattle.exchange.specs.CodeShape.{board_order, asked_by, event_order, Answers, AnswersInBytes, AnswersBoth, ServesOrder};
 
-use board::{Board, PassBegun, PowerUp, power_up};
+use board::{Board, power_up};
 use far_end::{serve_block, serve_command, serve_packet};
-use four_crates::FramesSent;
 use numbers::{number32, number64};
 use packets::Fields;
 use responses::{
@@ -60,16 +59,16 @@ fn power_up_order(board: Board, bytes: &[u8]) -> Answered
         return other_form(board);
     }
     let mut w = [0u16; 5];
-    words_from_bytes(bytes, &mut w);
+    let _ = words_from_bytes(bytes, &mut w);
     let up = power_up(number64(w[0], w[1], w[2], w[3]), w[4]);
     let answer = up.answer;
     let fresh = up.board;
     match answer {
-        PowerUp::Up => Answered {
+        Ok(()) => Answered {
             response: Response::One(0),
             board: fresh,
         },
-        PowerUp::Refused(r) => {
+        Err(r) => {
             let response = refusal_response(r);
             Answered { response, board }
         }
@@ -85,7 +84,7 @@ fn command_order(board: Board, bytes: &[u8]) -> Answered
         return other_form(board);
     }
     let mut words = [0u16; 1024];
-    words_from_bytes(bytes, &mut words);
+    let _ = words_from_bytes(bytes, &mut words);
     let count = bytes.len() / 2;
     let done = board.obey(&words[..count]);
     let answer = done.answer;
@@ -104,7 +103,7 @@ fn clock_order(board: Board, bytes: &[u8]) -> Answered
         return other_form(board);
     }
     let mut w = [0u16; 2];
-    words_from_bytes(bytes, &mut w);
+    let _ = words_from_bytes(bytes, &mut w);
     Answered {
         response: Response::One(0),
         board: board.clock(number32(w[0], w[1])),
@@ -214,11 +213,11 @@ fn begin_rates_order(board: Board, bytes: &[u8]) -> Answered
     let answer = begun.answer;
     let next = begun.board;
     match answer {
-        PassBegun::Begun => Answered {
+        Ok(()) => Answered {
             response: Response::One(0),
             board: next,
         },
-        PassBegun::Refused(r) => Answered {
+        Err(r) => Answered {
             response: refusal_response(r),
             board: next,
         },
@@ -245,8 +244,8 @@ fn frames_sent_order(board: Board, bytes: &[u8]) -> Response
         return Response::Question;
     }
     match board.frames_sent(bytes[0]) {
-        FramesSent::Number(n) => Response::Two(0, n as usize),
-        FramesSent::Refused(r) => refusal_response(r),
+        Ok(n) => Response::Two(0, n as usize),
+        Err(r) => refusal_response(r),
     }
 }
 
@@ -289,7 +288,7 @@ fn dynamic_order(board: Board, bytes: &[u8], out: &mut [u16; 498]) -> Response
         return Response::Question;
     }
     let mut words = [0u16; 1024];
-    words_from_bytes(bytes, &mut words);
+    let _ = words_from_bytes(bytes, &mut words);
     let count = bytes.len() / 2;
     words_response(board.dynamic_block(&words[..count], out))
 }
@@ -352,13 +351,6 @@ fn question(board: Board, text: &mut [u8; 2560]) -> ServedLine
     }
 }
 
-// The lesser of two numbers.
-fn lesser(a: usize, b: usize) -> usize
-    ensures { result ≡ min a b }
-{
-    if a < b { a } else { b }
-}
-
 // An order on the board, or a letter that is none.
 fn serve_on_board(board: Board, letter: u8, bytes: &[u8], text: &mut [u8; 2560]) -> ServedLine
     requires { length bytes.now ≤ 2048 }
@@ -384,7 +376,7 @@ fn explain_order(board: Board, bytes: &[u8], text: &mut [u8; 2560]) -> ServedLin
         return question(board, text);
     }
     let mut words = [0u16; 1024];
-    words_from_bytes(bytes, &mut words);
+    let _ = words_from_bytes(bytes, &mut words);
     let count = bytes.len() / 2;
     let explanation = board.explain(&words[..count]);
     ServedLine {
@@ -427,7 +419,7 @@ fn serve_read(board: Board, reading: Reading, bytes: &[u8], text: &mut [u8; 2560
     if digits % 2 != 0 {
         return question(board, text);
     }
-    let count = lesser(digits / 2, bytes.len());
+    let count = (digits / 2).min(bytes.len());
     serve_letter(board, reading.letter, &bytes[..count], text)
 }
 

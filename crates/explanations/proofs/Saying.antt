@@ -9,7 +9,8 @@ use native.Mathlib.Omega.{arith}
 use borrow.Author.Tests.{ne_eqb}
 use types.Run.{OneOf, miss}
 use denote.Enum.Declared.{tag_of}
-use Rattle.refusals.specs.Tables.{Answer, refusal_meaning}
+use Rattle.std.specs.Prelude.{Result}
+use Rattle.refusals.specs.Tables.{Answer, refusal_meaning, answer_of}
 use Rattle.refusals.specs.declared.Refusal.{Refusal}
 use Rattle.refusals.specs.declared.Refusal.TheVariants.{TooFewWords, WrongFirstWord, UnknownCommand, UnlistedParameter, SpareWordNotZero}
 use Rattle.refusals.specs.declared.Refusal.TheVariants.{WrongLength, NoEvents, AboveBound, NotAcceptedNow, NotFresh, NoSuchCrate}
@@ -19,8 +20,7 @@ use Rattle.refusals.specs.contracts.Refusal.{the_type}
 use Rattle.commands.specs.Commands.{block_length, parameters_of, listed_as}
 use Rattle.commands.specs.declared.Command.{Command}
 use Rattle.command_reader.specs.Reading.{count_in, named_in, command_of, command_in}
-use Rattle.acceptance.specs.Acceptance.{answer_meaning, decided}
-use Rattle.acceptance.specs.declared.CommandAnswer.{CommandAnswer}
+use Rattle.acceptance.specs.Acceptance.{decided}
 use Rattle.acceptance.specs.declared.Status.{Status}
 use Rattle.explanations.specs.Explaining.{Explained, accepted, status_in, explained_by, explained, reason_meaning, numbers_in, in_eight, Explains}
 use Rattle.explanations.specs.CodeShape.{Lists}
@@ -113,8 +113,8 @@ module _ (w : List ℕ) (p : Present) where
 
   -- ---- the answer that the words and the state get
 
-  pub by_answer : (a b : CommandAnswer) (s : Status) → s ≡ status_in p → answer_meaning a ≡ decided w s → a ≡ b
-      → (e : Explanation) → Explains (explained_by w p (answer_meaning b)) e → Explains (explained w p) e
+  pub by_answer : (a b : Result Command Refusal) (s : Status) → s ≡ status_in p → answer_of a ≡ decided w s → a ≡ b
+      → (e : Explanation) → Explains (explained_by w p (answer_of b)) e → Explains (explained w p) e
   unfolding explained
   by_answer a b s q d f e h =
-      subst (λ (x : Answer Command). Explains (explained_by w p x) e) (sym (ap answer_meaning f) ∙ d ∙ ap (decided w) q) h
+      subst (λ (x : Answer Command). Explains (explained_by w p x) e) (sym (ap answer_of f) ∙ d ∙ ap (decided w) q) h

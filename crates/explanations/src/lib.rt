@@ -8,9 +8,9 @@ ghost use Rattle.command_reader.specs.Reading.{command_in};
 ghost use Rattle.explanations.specs.Explaining.{activity_of, status_in, spare_at, word_at, explained_by, explained, Explains};
 ghost use Rattle.explanations.specs.CodeShape.{Lists};
 
-use acceptance::{CommandAnswer, Status, decide};
+use acceptance::{Status, decide};
 use bounds::bound_of;
-use commands::{Listed, listed_as};
+use commands::listed_as;
 use crate_pass::PassKind;
 use refusals::Refusal;
 use run::Freshness;
@@ -71,11 +71,11 @@ pub enum Reason {
 #[derive(Clone, Copy)]
 pub struct Explanation {
     pub reason: Reason,
-    // Where the reason lists numbers, these, and zeros after them.
+    // Where the reason lists numbers, these, and zeros after them: `Explains` says what all eight places hold.
     pub listed: [u16; 8],
 }
 
-// A list of numbers with zeros after them, and how many they are.
+// A list of numbers with zeros after them, and how many they are, as an explanation has them.
 #[derive(Clone, Copy)]
 struct NumberList {
     count: usize,
@@ -145,8 +145,8 @@ fn block_due(words: &[u16]) -> usize
 {
     let found = listed_as(word_at(words, 1), word_at(words, 2), 0);
     match found {
-        Listed::Found(c) => c.block_length(),
-        Listed::Refused(_) => 0,
+        Ok(c) => c.block_length(),
+        Err(_) => 0,
     }
 }
 
@@ -304,7 +304,7 @@ pub fn explain(words: &[u16], p: Present) -> Explanation
     let decision = decide(words, status_in(p));
     let answer = decision.answer;
     match answer {
-        CommandAnswer::Obeyed(_) => unlisted(Reason::Accepted),
-        CommandAnswer::Refused(refusal) => refused_because(words, p, refusal),
+        Ok(_) => unlisted(Reason::Accepted),
+        Err(refusal) => refused_because(words, p, refusal),
     }
 }

@@ -67,13 +67,15 @@ module _ (first : Board) (ticks out : List ℕ) where
         record { left = output_after.0; numbers = output_after.1 }
 
     -- the on-time after the last
-    pub all_made : i ≡ length ticks → length ticks + 1 ≤ length out → (t : ℕ) → t ≡ β.run.on_time → set now i t ≡ due ++ drop (length due) out
+    pub all_made : i ≡ length ticks → length ticks + 1 ≤ length out → (t : ℕ) → t ≡ β.run.on_time
+        → set now (length ticks) t ≡ due ++ drop (length due) out
     all_made h room t et =
         let n = length-steps first ticks in
         let last : drop i due ≡ t ∷ [] =
         sym m.left ∙ ap (steps_of β) (drop_of_length-le ticks {i = i} (omega arith)) ∙ step-none β ∙ ap (λ (k : ℕ). k ∷ []) (sym et) in
         let whole : i + 1 ≡ length due = omega arith in
-        (one-output t [] last (omega arith) (omega arith)).1
+        ap (λ (k : ℕ). set now k t) (sym h)
+        ∙ (one-output t [] last (omega arith) (omega arith)).1
         ∙ rw whole (ap (λ (l : List ℕ). l ++ drop (length due) out) (take_all (length due) due (omega arith)))
 
 -- the same of an equal board

@@ -6,15 +6,12 @@ use mathlib.Core.Path.{◌≡◌, refl, sym, ap, ◌∙◌}
 use mathlib.Core.List.{List, [], ◌∷◌, ◌++◌, append-nil}
 use lib.ListN.{length, take, drop, replicate, length-append, drop_of_length-le}
 use borrow.Author.Tests.{eq-eqb}
-use Rattle.refusals.specs.Tables.{refused, rule, answer_number}
-use Rattle.refusals.specs.Writing.{written_meaning}
+use Rattle.std.specs.Prelude.{Result, Ok, Err}
+use Rattle.refusals.specs.Tables.{refused, rule, answer_number, answer_of}
 use Rattle.refusals.specs.declared.Refusal.{Refusal}
 use Rattle.refusals.specs.declared.Refusal.TheVariants.{WrongLength}
-use Rattle.refusals.specs.declared.Written.{Written}
-use Rattle.refusals.specs.declared.Written.TheVariants.{Length, Refused}
-use Rattle.refusals.proofs.Tables.{given≢refused}
 use Rattle.refusals.proofs.Writing.{wrote-alike-by, wrote-length, wrote-output, wrote-front}
-use Rattle.refusals.proofs.Injective.{written-injective}
+use Rattle.refusals.proofs.Injective.{answer-injective}
 use Rattle.words.specs.Words.{copied}
 use Rattle.words.proofs.Laws.{copied-front}
 use Rattle.bounds.specs.Bounds.{bound_of, lent_rules}
@@ -22,22 +19,21 @@ use Rattle.bounds.proofs.Lent.{lent-6, lent-within}
 use Rattle.blocks.specs.Blocks.{header_words, static_rules, block_rules, WroteBlock}
 use Rattle.blocks.proofs.Laws.{block-own, block-clear}
 use Rattle.blocks.proofs.Tables.{block-exactly}
-use Rattle.block_reader.specs.Reading.{read_meaning, block_answer}
+use Rattle.block_reader.specs.Reading.{block_answer}
 use Rattle.block_reader.specs.declared.Kind.TheVariants.{Static}
-use Rattle.block_reader.specs.declared.BlockRead.{BlockRead}
-use Rattle.block_reader.specs.declared.BlockRead.TheVariants.{Refused as Unread}
 use Rattle.round_trips.specs.Blocks.{ReadsBack}
 use Rattle.round_trips.proofs.Blocks.{written_back}
 use Rattle.board.proofs.Answers.{applies-between}
 use Rattle.exports.specs.Exports.{header_of_zeros, static_answer, StaticRound}
+use Rattle.blocks.specs.declared.Header.{Header}
 
 -- 6 and then the rows of a static block: the writer's answer w, and what the lent words `out` became
-abbrev WroteLent : List ℕ → List ℕ → Written → List ℕ → Type 0
+abbrev pub WroteLent : List ℕ → List ℕ → (Result ℕ Refusal) → List ℕ → Type 0
 WroteLent block out w after = WroteBlock (lent_rules bound_of 436 block) 436 header_of_zeros block out w after
 
-module _ (block out : List ℕ) (w : Written) (after : List ℕ) (s : WroteLent block out w after) where
-  module _ (n : ℕ) (e : w ≡ Length n) where
-    as-length : WroteLent block out (Length n) after
+module _ (block out : List ℕ) (w : Result ℕ Refusal) (after : List ℕ) (s : WroteLent block out w after) where
+  module _ (n : ℕ) (e : w ≡ Ok n) where
+    as-length : WroteLent block out (Ok n) after
     as-length = rw e at s
 
     pub static-reads : ReadsBack Static (take n after) header_of_zeros block
@@ -60,26 +56,26 @@ module _ (block out : List ℕ) (w : Written) (after : List ℕ) (s : WroteLent 
         sym (ap length (wrote-front table due out n after as-length.wrote) ∙ wrote-length table due out n after as-length.wrote)
 
     -- so the reader does not refuse it
-    pub static-unread : {A : Type 0} (r : Refusal) (b : BlockRead) → b ≡ Unread r → read_meaning b ≡ block_answer Static (take n after) → A
-    static-unread r b told q = absurd (given≢refused (sym static-reads.header ∙ sym q ∙ ap read_meaning told))
+    pub static-read : (b : Result Header Refusal) → answer_of b ≡ block_answer Static (take n after) → answer_number (answer_of b) ≡ answer_number (answer_of w)
+    static-read b q = ap answer_number (q ∙ static-reads.header) ∙ sym (ap (λ (x : Result ℕ Refusal). answer_number (answer_of x)) e)
 
   -- the number is that of the writer's answer
-  pub static-round : (r : ℕ) → r ≡ answer_number (written_meaning w) → StaticRound block out r after
+  pub static-round : (r : ℕ) → r ≡ answer_number (answer_of w) → StaticRound block out r after
   static-round r q =
       record {
         number = q ∙ ap answer_number s.wrote.answer;
         output = s.wrote.output;
-        reads = λ n e. static-reads n (written-injective w (Length n) (s.wrote.answer ∙ e));
+        reads = λ n e. static-reads n (answer-injective w (Ok n) (s.wrote.answer ∙ e));
       }
 
 -- other words than 436
 pub static-6 : (block out : List ℕ) → (length block ≡ 436 → ⊥) → StaticRound block out 6 out
 static-6 block out l =
-    static-round block out (Refused WrongLength) out
+    static-round block out (Err WrongLength) out
     (block-own (lent_rules bound_of 436 block) 436 header_of_zeros block out WrongLength (lent-6 bound_of 436 block l)) 6 refl
 
 -- 436 words, stored in a block of zeros
-module _ (block stored out : List ℕ) (l : length block ≡ 436) (es : stored ≡ copied block (replicate 436 0)) (w : Written) (after : List ℕ) where
+module _ (block stored out : List ℕ) (l : length block ≡ 436) (es : stored ≡ copied block (replicate 436 0)) (w : Result ℕ Refusal) (after : List ℕ) where
   stored_is : stored ≡ block
   stored_is =
       copied-front block (replicate 436 0) 436 l (omega arith) es

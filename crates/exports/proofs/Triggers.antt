@@ -2,16 +2,16 @@
 -- Assumes nothing.
 use Prim.Native.Nat.{ℕ, suc, ◌+◌, ◌*◌, ◌-◌, ◌<◌, ◌≤◌}
 use native.Mathlib.Omega.{arith}
-use mathlib.Core.Path.{◌≡◌, refl, sym, ap, ap₂, ◌∙◌}
+use mathlib.Core.Path.{◌≡◌, refl, sym, ap, subst, ap₂, ◌∙◌}
 use mathlib.Core.Bool.{cond}
 use mathlib.Core.List.{List, [], ◌∷◌, ◌++◌, append-nil, append_assoc}
 use lib.ListN.{length, take, drop, length-append, length-drop, take-append-drop, drop_of_length-le}
 use lib.Seq.{length-take-le, take_at, drop_at}
 use borrow.Author.Tests.{le-ltb}
-use Rattle.refusals.specs.Tables.{Answer, given, refused, Rule, lowest}
-use Rattle.refusals.specs.Writing.{writing_by, writing_rules, written_meaning, output_after}
+use Rattle.std.specs.Prelude.{Ok, Err}
+use Rattle.refusals.specs.Tables.{Answer, given, refused, Rule, lowest, answer_of}
+use Rattle.refusals.specs.Writing.{writing_by, writing_rules, output_after}
 use Rattle.refusals.specs.declared.Refusal.{Refusal}
-use Rattle.refusals.specs.declared.Written.TheVariants.{Length, Refused}
 use Rattle.packets.specs.Packets.{first_six, packet_bytes}
 use Rattle.words.proofs.Laws.{part-rest}
 use Rattle.run.specs.Run.{trigger_number, trigger_rules, trigger_answer, after_trigger, after_answer}
@@ -49,32 +49,32 @@ module _ (β : Board) (m : ℕ) (out : List ℕ) (t : TriggerResult) (after : Li
   unfolding with_run
   run-after = ap (λ (b : Board). b.run) s.board
 
-  told : lowest (trigger_rules r four) 7 ≡ written_meaning t.answer
+  told : lowest (trigger_rules r four) 7 ≡ answer_of t.answer
   told = sym (room r out h) ∙ sym s.packet.answer
 
   abbrev packet : List ℕ
   packet = packet_bytes (trigger_number r) four
 
-  module _ (k : ℕ) (e : t.answer ≡ Length k) where
+  module _ (k : ℕ) (e : t.answer ≡ Ok k) where
     answered : trigger_answer r four out ≡ given k
-    answered = sym s.packet.answer ∙ ap written_meaning e
+    answered = sym s.packet.answer ∙ ap answer_of e
 
     pub given-packets : packets_of (suc m) r ≡ packet ++ packets_of m t.board.run
     unfolding packets_of
     given-packets =
-        ap (λ (a : Answer ℕ). packet_then a packet (packets_of m (after_trigger r))) (told ∙ ap written_meaning e)
+        ap (λ (a : Answer ℕ). packet_then a packet (packets_of m (after_trigger r))) (told ∙ ap answer_of e)
         ∙ ap (λ (q : Run). packet ++ packets_of m q) (sym (run-after ∙ ap (after_answer r) answered))
 
     pub given-output : after ≡ packet ++ drop 7 out
     given-output = s.packet.output ∙ ap (λ (a : Answer ℕ). output_after a packet out) answered ∙ ap (λ (n : ℕ). packet ++ drop n out) (packet-size r)
 
-  module _ (f : Refusal) (e : t.answer ≡ Refused f) where
+  module _ (f : Refusal) (e : t.answer ≡ Err f) where
     pub refused-packets : packets_of (suc m) r ≡ []
     unfolding packets_of
-    refused-packets = ap (λ (a : Answer ℕ). packet_then a packet (packets_of m (after_trigger r))) (told ∙ ap written_meaning e)
+    refused-packets = ap (λ (a : Answer ℕ). packet_then a packet (packets_of m (after_trigger r))) (told ∙ ap answer_of e)
 
     pub refused-output : after ≡ out
-    refused-output = s.packet.output ∙ ap (λ (a : Answer ℕ). output_after a packet out) (sym s.packet.answer ∙ ap written_meaning e)
+    refused-output = s.packet.output ∙ ap (λ (a : Answer ℕ). output_after a packet out) (sym s.packet.answer ∙ ap answer_of e)
 
 -- ---- a turn of the loop
 
@@ -132,9 +132,12 @@ all-given first n i out₀ out r g en m e =
     }
 
 pub at-end : (first : Run) (n i : ℕ) (out₀ out : List ℕ) (r : Run) → TriggersSoFar first n i out₀ out r → 7 * n ≤ length out₀ → i ≤ n
-    → n ≤ i → GivesPackets first n out₀ i out
+    → n ≤ i → GivesPackets first n out₀ n out
 unfolding packets_of
-at-end first n i out₀ out r g en l m = all-given first n i out₀ out r g en l (ap (λ (k : ℕ). packets_of k r) (let e : n - i ≡ 0 = omega arith in e))
+at-end first n i out₀ out r g en l m =
+    let last : i ≡ n = omega arith in
+    subst (λ (k : ℕ). GivesPackets first n out₀ k out) last
+    (all-given first n i out₀ out r g en l (ap (λ (k : ℕ). packets_of k r) (let e : n - i ≡ 0 = omega arith in e)))
 
 module _ (first : Run) (n i : ℕ) (out₀ out : List ℕ) (β : Board) (g : TriggersSoFar first n i out₀ out β.run) (en : 7 * n ≤ length out₀) (l : i < n)
     (t : TriggerResult) (after : List ℕ) (s : TriggersOn β four (take (length out - 7 * i) (drop (7 * i) out)) t after) where
@@ -151,7 +154,7 @@ module _ (first : Run) (n i : ℕ) (out₀ out : List ℕ) (β : Board) (g : Tri
   abbrev changed : List ℕ
   changed = take (7 * i) out ++ (after ++ drop (length out - 7 * i) part)
 
-  pub one-given : (k : ℕ) → t.answer ≡ Length k → TriggersSoFar first n (i + 1) out₀ changed t.board.run
+  pub one-given : (k : ℕ) → t.answer ≡ Ok k → TriggersSoFar first n (i + 1) out₀ changed t.board.run
   one-given k e =
       let same = g.same in
       let p = packet_bytes (trigger_number β.run) four in
@@ -173,7 +176,7 @@ module _ (first : Run) (n i : ℕ) (out₀ out : List ℕ) (β : Board) (g : Tri
         rest = ap (drop (7 * (i + 1))) whole ∙ put-drop out p (7 * i) (7 * (i + 1)) size fits ∙ sym (past 7 i out) ∙ ap (drop 7) g.rest ∙ past 7 i out₀;
       }
 
-  pub one-refused : (f : Refusal) → t.answer ≡ Refused f → GivesPackets first n out₀ i changed
+  pub one-refused : (f : Refusal) → t.answer ≡ Err f → GivesPackets first n out₀ i changed
   one-refused f e =
       let whole : changed ≡ out =
       back out after (7 * i)

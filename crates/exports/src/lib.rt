@@ -4,23 +4,22 @@
 #![tactic(auto)]
 
 ghost use Rattle.std.specs.Prelude.{◌≡◌, ◌*◌, ◌≤◌, length};
-ghost use Rattle.refusals.specs.Tables.{is_given};
+ghost use Rattle.refusals.specs.Tables.{answer_of, answer_number};
 ghost use Rattle.crc.specs.Crc.{crc};
-ghost use Rattle.packet_reader.specs.Reading.{packet_answer};
 ghost use Rattle.exports.specs.Exports.{command_given, CountsAccepted, CountsPass, CountsTimeUps, CountsRatePass, MakesSteps};
 ghost use Rattle.exports.specs.Exports.{GivesTriggers, good_packets, CountsPackets, StaticRound};
 ghost use Rattle.exports.specs.CodeShape.{GivesPackets};
 
-use block_reader::{BlockRead, Kind, read_block};
+use block_reader::{Kind, read_block};
 use blocks::{Header, write_static};
 use board::Board;
 use call_refusals::{lower_of, no_room, packets_refusal, pass_refusal, triggers_refusal};
-use command_reader::{CommandRead, read_command};
+use command_reader::read_command;
 use command_series::obey_series;
 use crc::crc8;
-use packet_reader::{PacketRead, read_packet};
+use packet_reader::read_packet;
 use packets::Fields;
-use refusals::Written;
+use refusals::{Refusal, count_given, number_given};
 use reply_series::{count_on_board, good_replies};
 use steps::Event;
 use stream::run_out;
@@ -37,10 +36,7 @@ pub fn ftm_crc(start: u8, bytes: &[u8]) -> u8
 pub fn ftm_read_command(words: &[u16]) -> u8
     ensures { result ≡ command_given words.now }
 {
-    match read_command(words) {
-        CommandRead::Accepted(_, _) => 0,
-        CommandRead::Refused(r) => r.number(),
-    }
+    number_given(&read_command(words))
 }
 
 // On a fresh board: how many of `count` commands of the words, one after another, are accepted.
@@ -131,15 +127,13 @@ pub fn ftm_clock_steps(words: &[u16], ticks: &[u32], out: &mut [u64]) -> u8
         return refusal;
     }
     let mut board = done.board;
-    let mut i = 0;
-    while i < ticks.len() {
-        board = board.clock(ticks[i]);
+    for (i, step) in ticks.iter().enumerate() {
+        board = board.clock(*step);
         let run = board.run;
         out[i] = run.timestamp;
-        i += 1;
     }
     let run = board.run;
-    out[i] = run.on_time;
+    out[ticks.len()] = run.on_time;
     0
 }
 
@@ -159,18 +153,16 @@ fn given_triggers(first: Board, count: usize, out: &mut [u8]) -> u64
         lp1: false,
     };
     let mut board = first;
-    let mut i = 0;
-    while i < count {
+    for i in 0..count {
         let t = board.trigger(fields, &mut out[7 * i..]);
         let answer = t.answer;
         let next = t.board;
         match answer {
-            Written::Length(_) => board = next,
-            Written::Refused(_) => return i as u64,
+            Ok(_) => board = next,
+            Err(_) => return i as u64,
         }
-        i += 1;
     }
-    i as u64
+    count as u64
 }
 
 // On a fresh board: obeys two commands of the words, then gives `count` triggers of n = 4, or as many as are not refused, whose packets go
@@ -188,26 +180,14 @@ pub fn ftm_triggers(words: &[u16], count: usize, packets: &mut [u8], number: &mu
     0
 }
 
-// Whether bytes are a good packet: 1, else 0.
-fn good_packet(bytes: &[u8]) -> u64
-    ensures { (result ≡ is_given (packet_answer bytes.now)) × (result ≤ 1) }
-{
-    match read_packet(bytes) {
-        PacketRead::Read(_) => 1,
-        PacketRead::Refused(_) => 0,
-    }
-}
-
 // How many of the packets, seven bytes each, are good.
 fn good_packets(bytes: &[u8]) -> u64
     ensures { result ≡ good_packets bytes.now }
 {
     let n = bytes.len() / 7;
     let mut good = 0;
-    let mut i = 0;
-    while i < n {
-        good += good_packet(&bytes[7 * i..7 * i + 7]);
-        i += 1;
+    for i in 0..n {
+        good += count_given(&read_packet(&bytes[7 * i..7 * i + 7]));
     }
     good
 }
@@ -224,12 +204,12 @@ pub fn ftm_packets(bytes: &[u8], good: &mut [u64]) -> u8
     0
 }
 
-// Writes the static block of a board of ID 0 with these words, and reads it back: a refusal's number, 0 where it is written.
-pub fn ftm_static(block: &[u16], out: &mut [u16]) -> u8
-    ensures { StaticRound block.now out.old result out.new }
+// Writes the static block of a board of ID 0 with these words, and reads it back.
+fn static_round(block: &[u16], out: &mut [u16]) -> Result<Header, Refusal>
+    ensures { StaticRound block.now out.old (answer_number (answer_of result)) out.new }
 {
     if block.len() != 436 {
-        return 6;
+        return Err(Refusal::WrongLength);
     }
     let mut stored = [0u16; 436];
     copy_words(block, &mut stored);
@@ -239,11 +219,13 @@ pub fn ftm_static(block: &[u16], out: &mut [u16]) -> u8
         trigger_counter: 0,
         timestamp: 0,
     };
-    match write_static(header, stored, out) {
-        Written::Refused(r) => r.number(),
-        Written::Length(n) => match read_block(Kind::Static, &out[..n]) {
-            BlockRead::Read(_) => 0,
-            BlockRead::Refused(r) => r.number(),
-        },
-    }
+    let n = write_static(header, stored, out)?;
+    read_block(Kind::Static, &out[..n])
+}
+
+// The same: a refusal's number, 0 where it is written.
+pub fn ftm_static(block: &[u16], out: &mut [u16]) -> u8
+    ensures { StaticRound block.now out.old result out.new }
+{
+    number_given(&static_round(block, out))
 }

@@ -7,6 +7,7 @@ use mathlib.Core.List.{List, [], ◌∷◌}
 use native.Mathlib.Omega.{arith}
 use lib.ListN.{length, get_or}
 use borrow.Author.Tests.{eq-eqb, ne_eqb}
+use Rattle.std.specs.Prelude.{Some, None}
 use Rattle.numbers.specs.Numbers.{number}
 use Rattle.words.specs.Words.{words_in}
 use Rattle.commands.specs.declared.BlockKind.TheVariants.{Static, Dynamic}
@@ -16,7 +17,6 @@ use Rattle.commands.specs.declared.Command.TheVariants.{Read, Write, Start, Stop
 use Rattle.script.specs.Forms.{taking, one_byte, no_byte, any_words, found}
 use Rattle.far_end.specs.FarEnd.{FarEndOrder, write_command, other_form, read_order, start_order, reset_order, ids}
 use Rattle.far_end.specs.CodeShape.{block_taken, AsksKind}
-use Rattle.far_end.specs.declared.KindAsked.TheVariants as kind-asked
 use Rattle.block_reader.specs.declared.Kind.TheVariants as kind
 
 -- ---- an order in another form, and in its form
@@ -89,17 +89,17 @@ module _ (b : List ℕ) where
 -- ---- the kinds
 
 module _ (k : ℕ) where
-  pub kind-static : k ≡ 1 → AsksKind k (kind-asked.Asked kind.Static)
+  pub kind-static : k ≡ 1 → AsksKind k (Some kind.Static)
   kind-static e b = rw e
 
-  pub kind-dynamic : k ≡ 2 → AsksKind k (kind-asked.Asked kind.Dynamic)
+  pub kind-dynamic : k ≡ 2 → AsksKind k (Some kind.Dynamic)
   kind-dynamic e b = rw e
 
-  pub kind-list : k ≡ 3 → AsksKind k (kind-asked.Asked kind.FtuList)
+  pub kind-list : k ≡ 3 → AsksKind k (Some kind.FtuList)
   kind-list e b = rw e
 
-  pub kind-failure : k ≡ 4 → AsksKind k (kind-asked.Asked kind.Failure)
+  pub kind-failure : k ≡ 4 → AsksKind k (Some kind.Failure)
   kind-failure e b = rw e
 
-  pub kind-other : (k ≡ 1 → ⊥) → (k ≡ 2 → ⊥) → (k ≡ 3 → ⊥) → (k ≡ 4 → ⊥) → AsksKind k kind-asked.OtherForm
+  pub kind-other : (k ≡ 1 → ⊥) → (k ≡ 2 → ⊥) → (k ≡ 3 → ⊥) → (k ≡ 4 → ⊥) → AsksKind k None
   kind-other s d l f b = simp (ne_eqb _ _ s, ne_eqb _ _ d, ne_eqb _ _ l, ne_eqb _ _ f)

@@ -7,11 +7,10 @@ use native.Mathlib.Omega.{arith}
 use lib.ListN.{length, get_or, take, drop, length-drop}
 use lib.Seq.{take_at}
 use borrow.Author.Tests.{le-leb, lt-leb, eq-eqb, ne_eqb, eqb-true, not-false}
+use Rattle.std.specs.Prelude.{Option, Some, None, Result, Ok, Err}
 use Rattle.refusals.specs.Refusals.{number_of, place_of}
-use Rattle.refusals.specs.Tables.{Answer, given, refused, lowest}
+use Rattle.refusals.specs.Tables.{Answer, given, refused, lowest, answer_of}
 use Rattle.refusals.specs.declared.Refusal.{Refusal}
-use Rattle.refusals.specs.Writing.{written_meaning}
-use Rattle.refusals.specs.declared.Written.{Written}
 use Rattle.refusals.proofs.Tables.{Clear, given-clear}
 use Rattle.bounds.specs.Bounds.{bound_of}
 use Rattle.bounds.proofs.Lent.{lent_length}
@@ -24,15 +23,9 @@ use Rattle.commands.specs.declared.Command.{Command}
 use Rattle.commands.specs.declared.Command.TheVariants.{Read, Write, Start, Stop, Ping, CrateReset}
 use Rattle.command_writer.specs.Writing.{command_words, write_rules, WroteCommand}
 use Rattle.block_reader.specs.Reading.{body_length, header_in, read_rules, block_answer, body_where, body_of}
-use Rattle.block_reader.specs.Reading as blocks
 use Rattle.block_reader.specs.declared.Kind.{Kind}
-use Rattle.block_reader.specs.declared.BlockRead.{BlockRead}
-use Rattle.block_reader.specs.declared.BlockRead.TheVariants as read-block
 use Rattle.block_reader.proofs.Laws.{body-small}
 use Rattle.packet_reader.specs.Reading.{packet_answer}
-use Rattle.packet_reader.specs.Reading as packets
-use Rattle.packet_reader.specs.declared.PacketRead.{PacketRead}
-use Rattle.packet_reader.specs.declared.PacketRead.TheVariants as read-packet
 use Rattle.texts.specs.Texts as texts
 use Rattle.texts.specs.Texts.{question, numbers, packet_numbers, in_words, response_meaning, text_of, in_front}
 use Rattle.texts.specs.declared.Response.{Response}
@@ -43,11 +36,7 @@ use Rattle.script.specs.Forms.{any_words, Row, found, found_by_first}
 use Rattle.far_end.specs.FarEnd.{FarEndOrder, write_command, read_packet, read_block, other_form, ids, kinds, command_from, block_from}
 use Rattle.far_end.specs.FarEnd.{packet_printed, body_printed, far_end_printed, PrintsLine}
 use Rattle.far_end.specs.CodeShape.{block_taken, command_order, kind_order, AsksKind}
-use Rattle.far_end.specs.declared.KindAsked.{KindAsked}
-use Rattle.far_end.specs.declared.KindAsked.TheVariants as kind-asked
 use Rattle.far_end.proofs.Asked.{unasked, asked}
-use Rattle.far_end.specs.declared.CommandAsked.{CommandAsked}
-use Rattle.far_end.specs.declared.CommandAsked.TheVariants.{Asked, OtherForm}
 
 -- ---- the row of the first byte
 
@@ -98,18 +87,18 @@ module _ (b : List ℕ) where
   unfolding far_end_printed command_from
   long-command h = ap far_end_printed (too_many ids b h)
 
-  module _ (rest : List ℕ) (er : rest ≡ drop 1 b) (n : length b ≡ 0 → ⊥) (h : length b ≤ 2048) (a : CommandAsked)
+  module _ (rest : List ℕ) (er : rest ≡ drop 1 b) (n : length b ≡ 0 → ⊥) (h : length b ≤ 2048) (a : Option Command)
       (e : command_order a (words_in rest) ≡ found other_form ids (get_or b 0 0) rest) where
     command-order : command_order a (words_in rest) ≡ command_from b
     unfolding command_from
     command-order = e ∙ by_first ids b rest er n h
 
-    pub other-command : a ≡ OtherForm → question ≡ far_end_printed (command_from b)
+    pub other-command : a ≡ None → question ≡ far_end_printed (command_from b)
     unfolding far_end_printed
-    other-command k = ap far_end_printed (sym (ap (λ (x : CommandAsked). command_order x (words_in rest)) k) ∙ command-order)
+    other-command k = ap far_end_printed (sym (ap (λ (x : Option Command). command_order x (words_in rest)) k) ∙ command-order)
 
-    pub command-written : (c : Command) → a ≡ Asked c → (w out : List ℕ) (r : Written) (after : List ℕ) (s : Response)
-        → length out ≡ 498 → w ≡ words_in rest → WroteCommand c w out r after → PrintsWrittenWords s (written_meaning r)
+    pub command-written : (c : Command) → a ≡ Some c → (w out : List ℕ) (r : Result ℕ Refusal) (after : List ℕ) (s : Response)
+        → length out ≡ 498 → w ≡ words_in rest → WroteCommand c w out r after → PrintsWrittenWords s (answer_of r)
         → PrintsInWords s after (far_end_printed (command_from b))
     command-written c k w out r after s l ew wrote p bytes =
         p bytes after
@@ -117,19 +106,19 @@ module _ (b : List ℕ) where
         ∙ block-alone c w
         ∙ ap far_end_printed
         (ap (λ (x : List ℕ). write_command c (block_taken c x)) ew
-        ∙ sym (ap (λ (x : CommandAsked). command_order x (words_in rest)) k)
+        ∙ sym (ap (λ (x : Option Command). command_order x (words_in rest)) k)
         ∙ command-order)
 
 -- ---- X
 
-module _ (b : List ℕ) (r : PacketRead) (e : packets.read_meaning r ≡ packet_answer b) where
-  pub packet-read : (p : Packet) → r ≡ read-packet.Read p → numbers (packet_numbers p) ≡ far_end_printed (read_packet b)
+module _ (b : List ℕ) (r : Result Packet Refusal) (e : answer_of r ≡ packet_answer b) where
+  pub packet-read : (p : Packet) → r ≡ Ok p → numbers (packet_numbers p) ≡ far_end_printed (read_packet b)
   unfolding far_end_printed
-  packet-read p k = ap packet_printed (sym (ap packets.read_meaning k) ∙ e)
+  packet-read p k = ap packet_printed (sym (ap answer_of k) ∙ e)
 
-  pub packet-refused : (f : Refusal) → r ≡ read-packet.Refused f → refusal_printed (number_of f) (place_of f) ≡ far_end_printed (read_packet b)
+  pub packet-refused : (f : Refusal) → r ≡ Err f → refusal_printed (number_of f) (place_of f) ≡ far_end_printed (read_packet b)
   unfolding far_end_printed
-  packet-refused f k = ap packet_printed (sym (ap packets.read_meaning k) ∙ e)
+  packet-refused f k = ap packet_printed (sym (ap answer_of k) ∙ e)
 
 -- ---- Y
 
@@ -145,8 +134,8 @@ body-room kind w = go (block_answer kind w) refl
         rw (length-drop) (omega arith)
     go (refused n p) e = omega arith
 
-module _ (kind : Kind) (w : List ℕ) (r : BlockRead) (e : blocks.read_meaning r ≡ block_answer kind w) where
-  pub block_read : (h : Header) → r ≡ read-block.Read h → (body out after : List ℕ) → body ≡ body_of kind w → length out ≡ 498 → after ≡ copied body out
+module _ (kind : Kind) (w : List ℕ) (r : Result Header Refusal) (e : answer_of r ≡ block_answer kind w) where
+  pub block_read : (h : Header) → r ≡ Ok h → (body out after : List ℕ) → body ≡ body_of kind w → length out ≡ 498 → after ≡ copied body out
       → texts.block h (take (length body) after) ≡ far_end_printed (read_block kind w)
   unfolding far_end_printed
   block_read h k body out after eb l ea =
@@ -154,11 +143,11 @@ module _ (kind : Kind) (w : List ℕ) (r : BlockRead) (e : blocks.read_meaning r
       let n : length body ≤ length out = rw eb (omega arith) in
       let front : take (length body) after ≡ body =
       ap (take (length body)) (ea ∙ copied-whole body out n) ∙ take_at body _ (length body) refl in
-      ap (texts.block h) (front ∙ eb) ∙ ap (body_printed (body_of kind w)) (sym (ap blocks.read_meaning k) ∙ e)
+      ap (texts.block h) (front ∙ eb) ∙ ap (body_printed (body_of kind w)) (sym (ap answer_of k) ∙ e)
 
-  pub block_refused : (f : Refusal) → r ≡ read-block.Refused f → refusal_printed (number_of f) (place_of f) ≡ far_end_printed (read_block kind w)
+  pub block_refused : (f : Refusal) → r ≡ Err f → refusal_printed (number_of f) (place_of f) ≡ far_end_printed (read_block kind w)
   unfolding far_end_printed
-  block_refused f k = ap (body_printed (body_of kind w)) (sym (ap blocks.read_meaning k) ∙ e)
+  block_refused f k = ap (body_printed (body_of kind w)) (sym (ap answer_of k) ∙ e)
 
 -- the words that bytes hold
 module _ (kind : Kind) (b : List ℕ) where
@@ -180,16 +169,16 @@ module _ (b : List ℕ) where
   unfolding far_end_printed block_from
   long-block h = ap far_end_printed (too_many kinds b h)
 
-  module _ (rest : List ℕ) (er : rest ≡ drop 1 b) (n : length b ≡ 0 → ⊥) (h : length b ≤ 2048) (a : KindAsked) (e : AsksKind (get_or b 0 0) a) where
-    kind-order : (x : KindAsked) → a ≡ x → kind_order x rest ≡ block_from b
+  module _ (rest : List ℕ) (er : rest ≡ drop 1 b) (n : length b ≡ 0 → ⊥) (h : length b ≤ 2048) (a : Option Kind) (e : AsksKind (get_or b 0 0) a) where
+    kind-order : (x : Option Kind) → a ≡ x → kind_order x rest ≡ block_from b
     unfolding block_from
-    kind-order x k = sym (ap (λ (y : KindAsked). kind_order y rest) k) ∙ e rest ∙ by_first kinds b rest er n h
+    kind-order x k = sym (ap (λ (y : Option Kind). kind_order y rest) k) ∙ e rest ∙ by_first kinds b rest er n h
 
-    pub other-kind : a ≡ kind-asked.OtherForm → question ≡ far_end_printed (block_from b)
+    pub other-kind : a ≡ None → question ≡ far_end_printed (block_from b)
     unfolding far_end_printed
     other-kind k = ap far_end_printed (kind-order _ k)
 
-    pub by_kind : (kind : Kind) → a ≡ kind-asked.Asked kind → far_end_printed (any_words other_form (read_block kind) rest) ≡ far_end_printed (block_from b)
+    pub by_kind : (kind : Kind) → a ≡ Some kind → far_end_printed (any_words other_form (read_block kind) rest) ≡ far_end_printed (block_from b)
     by_kind kind k = ap far_end_printed (kind-order _ k)
 
 -- ---- the line

@@ -11,90 +11,76 @@ ghost use Rattle.far_end.specs.FarEnd.{write_command, read_packet, read_block, o
 ghost use Rattle.far_end.specs.FarEnd.{ids, command_from, block_from, far_end_printed, PrintsLine};
 ghost use Rattle.far_end.specs.CodeShape.{command_order, AsksKind};
 
-use block_reader::{BlockRead, Kind, body_after, read_block};
+use block_reader::{Kind, body_after, read_block};
 use command_writer::write_command;
 use commands::{BlockKind, Command, RunLength};
 use numbers::number32;
-use packet_reader::{PacketRead, read_packet};
+use packet_reader::read_packet;
 use responses::{refusal_response, words_response};
 use texts::{Response, write_response};
 use words::{copy_words, words_from_bytes};
 
-// The command that bytes ask for.
-#[derive(Clone, Copy)]
-enum CommandAsked {
-    Asked(Command),
-    OtherForm,
-}
-
-// The kind of block that a byte asks for.
-#[derive(Clone, Copy)]
-enum KindAsked {
-    Asked(Kind),
-    OtherForm,
-}
-
 // A read, of the block that a byte says.
-fn read_asked(bytes: &[u8]) -> CommandAsked
+fn read_asked(bytes: &[u8]) -> Option<Command>
     ensures { command_order result (words_in bytes.now) ≡ one_byte other_form read_order bytes.now }
 {
     if bytes.len() != 1 {
-        return CommandAsked::OtherForm;
+        return None;
     }
     match bytes[0] {
-        1 => CommandAsked::Asked(Command::Read(BlockKind::Static)),
-        2 => CommandAsked::Asked(Command::Read(BlockKind::Dynamic)),
-        _ => CommandAsked::OtherForm,
+        1 => Some(Command::Read(BlockKind::Static)),
+        2 => Some(Command::Read(BlockKind::Dynamic)),
+        _ => None,
     }
 }
 
 // A write, of the words that the bytes hold.
-fn write_asked(bytes: &[u8]) -> CommandAsked
+fn write_asked(bytes: &[u8]) -> Option<Command>
     ensures { command_order result (words_in bytes.now) ≡ any_words other_form (write_command Write) bytes.now }
 {
     if bytes.len() % 2 != 0 {
-        return CommandAsked::OtherForm;
+        return None;
     }
-    CommandAsked::Asked(Command::Write)
+    Some(Command::Write)
 }
 
 // A start, endless or of X events.
-fn start_asked(bytes: &[u8]) -> CommandAsked
+fn start_asked(bytes: &[u8]) -> Option<Command>
     ensures { command_order result (words_in bytes.now) ≡ start_order bytes.now }
 {
     if bytes.len() == 0 {
-        return CommandAsked::Asked(Command::Start(RunLength::Endless));
+        return Some(Command::Start(RunLength::Endless));
     }
     if bytes.len() != 4 {
-        return CommandAsked::OtherForm;
+        return None;
     }
     let mut w = [0u16; 2];
-    words_from_bytes(bytes, &mut w);
-    CommandAsked::Asked(Command::Start(RunLength::Counted(number32(w[0], w[1]))))
+    let _ = words_from_bytes(bytes, &mut w);
+    Some(Command::Start(RunLength::Counted(number32(w[0], w[1]))))
 }
 
 // A command that takes nothing.
-fn bare_asked(command: Command, bytes: &[u8]) -> CommandAsked
+fn bare_asked(command: Command, bytes: &[u8]) -> Option<Command>
     ensures { command_order result (words_in bytes.now) ≡ no_byte other_form (write_command command []) bytes.now }
 {
     if bytes.len() != 0 {
-        return CommandAsked::OtherForm;
+        return None;
     }
-    CommandAsked::Asked(command)
+    Some(command)
 }
 
 // A reset of the crate that a byte says.
-fn reset_asked(bytes: &[u8]) -> CommandAsked
+fn reset_asked(bytes: &[u8]) -> Option<Command>
     ensures { command_order result (words_in bytes.now) ≡ one_byte other_form reset_order bytes.now }
 {
     if bytes.len() != 1 {
-        return CommandAsked::OtherForm;
+        return None;
     }
-    CommandAsked::Asked(Command::CrateReset(bytes[0]))
+    Some(Command::CrateReset(bytes[0]))
 }
 
 // The command that an ID and the bytes after it ask for.
-fn command_asked(id: u8, bytes: &[u8]) -> CommandAsked
+fn command_asked(id: u8, bytes: &[u8]) -> Option<Command>
     ensures { command_order result (words_in bytes.now) ≡ found other_form ids id bytes.now }
 {
     match id {
@@ -104,7 +90,7 @@ fn command_asked(id: u8, bytes: &[u8]) -> CommandAsked
         0x08 => bare_asked(Command::Stop, bytes),
         0x10 => bare_asked(Command::Ping, bytes),
         0x20 => reset_asked(bytes),
-        _ => CommandAsked::OtherForm,
+        _ => None,
     }
 }
 
@@ -120,13 +106,13 @@ fn written_response(bytes: &[u8], out: &mut [u16; 498]) -> Response
     }
     let rest = &bytes[1..];
     match command_asked(bytes[0], rest) {
-        CommandAsked::Asked(command) => {
+        Some(command) => {
             let mut words = [0u16; 1024];
-            words_from_bytes(rest, &mut words);
+            let _ = words_from_bytes(rest, &mut words);
             let count = rest.len() / 2;
             words_response(write_command(command, &words[..count], out))
         }
-        CommandAsked::OtherForm => Response::Question,
+        None => Response::Question,
     }
 }
 
@@ -135,8 +121,8 @@ fn packet_response(bytes: &[u8]) -> Response
     ensures { Prints result (far_end_printed (read_packet bytes.now)) }
 {
     match read_packet(bytes) {
-        PacketRead::Read(packet) => Response::Packet(packet),
-        PacketRead::Refused(refusal) => refusal_response(refusal),
+        Ok(packet) => Response::Packet(packet),
+        Err(refusal) => refusal_response(refusal),
     }
 }
 
@@ -148,8 +134,8 @@ fn read_response(kind: Kind, words: &[u16], out: &mut [u16; 498]) -> Response
     let body = body_after(answer, words);
     copy_words(body, out);
     match answer {
-        BlockRead::Read(header) => Response::Block(header, body.len()),
-        BlockRead::Refused(refusal) => refusal_response(refusal),
+        Ok(header) => Response::Block(header, body.len()),
+        Err(refusal) => refusal_response(refusal),
     }
 }
 
@@ -162,21 +148,21 @@ fn kind_response(kind: Kind, bytes: &[u8], out: &mut [u16; 498]) -> Response
         return Response::Question;
     }
     let mut words = [0u16; 1024];
-    words_from_bytes(bytes, &mut words);
+    let _ = words_from_bytes(bytes, &mut words);
     let count = bytes.len() / 2;
     read_response(kind, &words[..count], out)
 }
 
 // The kind that a byte stands for.
-fn kind_asked(byte: u8) -> KindAsked
+fn kind_asked(byte: u8) -> Option<Kind>
     ensures { AsksKind byte result }
 {
     match byte {
-        1 => KindAsked::Asked(Kind::Static),
-        2 => KindAsked::Asked(Kind::Dynamic),
-        3 => KindAsked::Asked(Kind::FtuList),
-        4 => KindAsked::Asked(Kind::Failure),
-        _ => KindAsked::OtherForm,
+        1 => Some(Kind::Static),
+        2 => Some(Kind::Dynamic),
+        3 => Some(Kind::FtuList),
+        4 => Some(Kind::Failure),
+        _ => None,
     }
 }
 
@@ -191,8 +177,8 @@ fn block_response(bytes: &[u8], out: &mut [u16; 498]) -> Response
         return Response::Question;
     }
     match kind_asked(bytes[0]) {
-        KindAsked::Asked(kind) => kind_response(kind, &bytes[1..], out),
-        KindAsked::OtherForm => Response::Question,
+        Some(kind) => kind_response(kind, &bytes[1..], out),
+        None => Response::Question,
     }
 }
 

@@ -2,5 +2,4 @@
 pub mod Entries
 pub mod Records
 pub mod OneCrate
-pub mod Injective
 pub mod Rates

@@ -1,16 +1,10 @@
 -- 01, Slow control, and Blocks sent out; 02, i: what the four crates are together. None of it is stored.
 use Rattle.std.specs.Prelude.{ℕ, zero, suc, ◌/◌, ◌%◌, Bool, not, cond, ◌||◌, List, [], ◌∷◌, ◌++◌, eqb, leb, ltb, length, get_or}
-use Rattle.refusals.specs.Tables.{Answer, given, Rule, rule, lowest, refusal_meaning}
+use Rattle.refusals.specs.Tables.{Answer, Rule, rule, lowest}
 use Rattle.ftu_list.specs.declared.Entry.{Entry}
 use Rattle.crate_pass.specs.Crate.{silent, entries_in, is_done, begun_crate, no_such_crate, first_rule}
 use Rattle.crate_pass.specs.declared.PassKind.{PassKind}
 use Rattle.crate_pass.specs.declared.Crate.{Crate}
-use Rattle.four_crates.specs.declared.FirstStep.{FirstStep}
-use Rattle.four_crates.specs.declared.FirstStep.TheVariants.{Step}
-use Rattle.four_crates.specs.declared.FramesSent.{FramesSent}
-use Rattle.four_crates.specs.declared.FramesSent.TheVariants.{Number}
-use Rattle.four_crates.specs.declared.RecordFound.{RecordFound}
-use Rattle.four_crates.specs.declared.RecordFound.TheVariants.{Record}
 use Rattle.four_crates.specs.declared.Failure.{Failure}
 
 -- what stands for a crate above 3, which there is none of
@@ -39,18 +33,8 @@ begun_all kind words cs =
 abbrev pub first_rules : List Crate → ℕ → List Rule
 first_rules cs i = no_such_crate i ∷ first_rule (crate_of cs i) ∷ []
 
--- the board and the code of the first frame
-abbrev pub first_meaning : FirstStep → Answer (ℕ × ℕ)
-first_meaning (Step b code) = given (b, code)
-first_meaning (FirstStep.Refused r) = refusal_meaning r
-
 unfoldable pub first_answer : List Crate → ℕ → Answer (ℕ × ℕ)
 first_answer cs i = lowest (first_rules cs i) ((crate_of cs i).board, (crate_of cs i).code)
-
--- "The number of frames sent on a crate"
-abbrev pub sent_meaning : FramesSent → Answer ℕ
-sent_meaning (Number n) = given n
-sent_meaning (FramesSent.Refused r) = refusal_meaning r
 
 unfoldable pub sent_on : List Crate → ℕ → Answer ℕ
 sent_on cs i = lowest (no_such_crate i ∷ []) (crate_of cs i).sent
@@ -102,10 +86,6 @@ record_at cs n = get_or (records cs) n (failure 0 0)
 -- "18: no failure record of that ordinal"
 abbrev pub no_such_record : List Crate → ℕ → Rule
 no_such_record cs n = rule 18 (leb (length (records cs)) n)
-
-abbrev pub record_meaning : RecordFound → Answer Failure
-record_meaning (Record f) = given f
-record_meaning (RecordFound.Refused r) = refusal_meaning r
 
 unfoldable pub record_answer : List Crate → ℕ → Answer Failure
 record_answer cs n = lowest (no_such_record cs n ∷ []) (record_at cs n)

@@ -4,9 +4,10 @@
 
 ghost use Rattle.std.specs.Prelude.{◌≡◌, ◌<◌, get_or};
 ghost use Rattle.crate_pass.specs.Crate.{entries_in, silent};
-ghost use Rattle.four_crates.specs.FourCrates.{in_pass, begun_all, first_meaning, first_answer};
-ghost use Rattle.four_crates.specs.FourCrates.{sent_meaning, sent_on, entries_of, rates_of, failed_at, record_meaning, record_answer};
+ghost use Rattle.four_crates.specs.FourCrates.{in_pass, begun_all, first_answer};
+ghost use Rattle.four_crates.specs.FourCrates.{sent_on, entries_of, rates_of, failed_at, record_answer};
 ghost use Rattle.four_crates.specs.CodeShape.{PutCrate};
+ghost use Rattle.refusals.specs.Tables.{answer_of};
 
 use crate_pass::{Crate, PassKind};
 use ftu_list::Entry;
@@ -20,28 +21,8 @@ pub struct Failure {
     pub code: u8,
 }
 
-// The board and the code of a crate's first frame in a pass.
-#[derive(Clone, Copy)]
-pub enum FirstStep {
-    Step(u8, u8),
-    Refused(Refusal),
-}
-
-// The number of frames sent on a crate.
-#[derive(Clone, Copy)]
-pub enum FramesSent {
-    Number(u16),
-    Refused(Refusal),
-}
-
-// The failure record of an ordinal.
-#[derive(Clone, Copy)]
-pub enum RecordFound {
-    Record(Failure),
-    Refused(Refusal),
-}
-
-// Whether a frame is outstanding on some crate.
+// Whether a frame is outstanding on some crate. (Here and below the four stand at constant places: with a variable one the crates are copied;
+// docs/DECISIONS.md, "What a call on the whole board costs".)
 pub fn in_pass(crates: [Crate; 4]) -> bool
     ensures { result ≡ in_pass crates }
 {
@@ -78,31 +59,31 @@ pub fn begin_all(crates: [Crate; 4], kind: PassKind, words: [u16; 4]) -> [Crate;
 }
 
 // The first frame of the pass on a crate, until a reply or a time-up on it is counted: the number of frames tells.
-pub fn first_on(crates: [Crate; 4], index: u8) -> FirstStep
-    ensures { first_meaning result ≡ first_answer crates index }
+pub fn first_on(crates: [Crate; 4], index: u8) -> Result<(u8, u8), Refusal>
+    ensures { answer_of result ≡ first_answer crates index }
 {
     if 3 < index {
-        return FirstStep::Refused(Refusal::NoSuchCrate);
+        return Err(Refusal::NoSuchCrate);
     }
     let own = crates[index as usize];
     if own.is_done() {
-        return FirstStep::Refused(Refusal::NothingOutstanding);
+        return Err(Refusal::NothingOutstanding);
     }
     if 1 < own.sent {
-        return FirstStep::Refused(Refusal::NothingOutstanding);
+        return Err(Refusal::NothingOutstanding);
     }
-    FirstStep::Step(own.board, own.code)
+    Ok((own.board, own.code))
 }
 
 // The number of frames sent on a crate.
-pub fn sent_on(crates: [Crate; 4], index: u8) -> FramesSent
-    ensures { sent_meaning result ≡ sent_on crates index }
+pub fn sent_on(crates: [Crate; 4], index: u8) -> Result<u16, Refusal>
+    ensures { answer_of result ≡ sent_on crates index }
 {
     if 3 < index {
-        return FramesSent::Refused(Refusal::NoSuchCrate);
+        return Err(Refusal::NoSuchCrate);
     }
     let own = crates[index as usize];
-    FramesSent::Number(own.sent)
+    Ok(own.sent)
 }
 
 // A board's entry of the FTU list, from what its crate keeps.
@@ -130,11 +111,9 @@ pub fn entries_of(crates: [Crate; 4]) -> [Entry; 40]
         crc_errors: 0,
     };
     let mut entries = [silent; 40];
-    let mut k = 0;
-    while k < 40 {
+    for k in 0..40 {
         let own = crates[k / 10];
         entries[k] = entry_of(own, k % 10);
-        k += 1;
     }
     entries
 }
@@ -182,20 +161,18 @@ fn failed_at(crates: [Crate; 4], k: usize) -> u8
 }
 
 // The failure record of an ordinal, in rising k.
-pub fn record_at(crates: [Crate; 4], ordinal: usize) -> RecordFound
-    ensures { record_meaning result ≡ record_answer crates ordinal }
+pub fn record_at(crates: [Crate; 4], ordinal: usize) -> Result<Failure, Refusal>
+    ensures { answer_of result ≡ record_answer crates ordinal }
 {
     let mut left = ordinal;
-    let mut k: u8 = 0;
-    while k < 40 {
+    for k in 0..40u8 {
         let code = failed_at(crates, k as usize);
         if code != 0 {
             if left == 0 {
-                return RecordFound::Record(Failure { k, code });
+                return Ok(Failure { k, code });
             }
             left -= 1;
         }
-        k += 1;
     }
-    RecordFound::Refused(Refusal::NoSuchRecord)
+    Err(Refusal::NoSuchRecord)
 }

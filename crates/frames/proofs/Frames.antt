@@ -1,11 +1,13 @@
 -- Frames of five words of data are those of the words that a code carries, and have 28 bytes.
 -- Assumes nothing.
-use Prim.Native.Nat.{ℕ, ◌+◌}
-use mathlib.Core.Path.{◌≡◌, refl, sym, ap, subst, ◌∙◌}
+use Prim.Native.Nat.{ℕ, suc, ◌+◌, ◌<◌}
+use mathlib.Core.Path.{◌≡◌, refl, sym, ap, ap₂, subst, ◌∙◌}
 use mathlib.Core.List.{List, [], ◌∷◌, ◌++◌}
 use native.Mathlib.Omega.{arith}
 use lib.ListN.{length, take, get_or, set, replicate, length-append, length-replicate}
 use lib.Seq.{length-take-le, take_at, get_or_at, set_at}
+use Rattle.std.specs.List.{flat_map}
+use Rattle.numbers.specs.Numbers.{digits}
 use Rattle.words.specs.Words.{bytes_of}
 use Rattle.crc.specs.Crc.{crc, frame_start}
 use Rattle.configuration.specs.declared.Settings.{Settings}
@@ -15,7 +17,21 @@ use Rattle.frames.specs.declared.Code.{Code}
 use Rattle.frames.specs.declared.Code.TheVariants.{Dacs, Enables, Prescaling, Ping, Rates}
 use Rattle.numbers.proofs.Listed.{listed}
 
+-- the bytes of each word, one after the other
+pub bytes-each : (w : List ℕ) (r : List (List ℕ)) → length r ≡ length w → ((i : ℕ) → i < length w → get_or r i [] ≡ digits 256 2 (get_or w i 0))
+    → flat_map (λ x. x) r ≡ bytes_of w
+bytes-each [] [] e h = refl
+bytes-each [] (x ∷ r) e h = absurd (let z : ⊥ = omega arith in z)
+bytes-each (a ∷ w) [] e h = absurd (let z : ⊥ = omega arith in z)
+bytes-each (a ∷ w) (x ∷ r) e h = ap₂ ◌++◌ (h 0 (omega arith)) (bytes-each w r (omega arith) (λ i l. h (suc i) (omega arith)))
+
 module _ (address number : ℕ) where
+  -- five words of data, and zeros after them
+  pub five-laid : (w : List ℕ) → length w ≡ 5 → (0x40 ∷ address ∷ 192 ∷ 0 ∷ number ∷ bytes_of w) ++ replicate 13 0 ≡ before_crc address number w
+  unfolding before_crc
+  five-laid w n =
+      subst (λ (l : List ℕ). (0x40 ∷ address ∷ 192 ∷ 0 ∷ number ∷ bytes_of l) ++ replicate 13 0 ≡ before_crc address number l) (listed w 5 n) refl
+
   -- zeros up to five words change nothing
   abbrev FiveWill : List ℕ → Type 0
   FiveWill l = without_crc address number (five_of l) ≡ without_crc address number l

@@ -13,11 +13,11 @@ use table_crc::crc8;
 // What a frame is for.
 #[derive(Clone, Copy)]
 pub enum Code {
-    Dacs,
-    Enables,
-    Prescaling,
-    Ping,
-    Rates,
+    Dacs = 1,
+    Enables = 2,
+    Prescaling = 3,
+    Ping = 4,
+    Rates = 5,
 }
 
 impl Code {
@@ -25,13 +25,7 @@ impl Code {
     pub fn number(self) -> u8
         ensures { result ≡ code_of self }
     {
-        match self {
-            Code::Dacs => 1,
-            Code::Enables => 2,
-            Code::Prescaling => 3,
-            Code::Ping => 4,
-            Code::Rates => 5,
-        }
+        self as u8
     }
 }
 
@@ -39,14 +33,12 @@ impl Code {
 fn words_for(code: Code, s: Settings) -> [u16; 5]
     ensures { result ≡ five_of (words_for code s) }
 {
-    let d = s.dacs;
     let e = s.enables;
     match code {
-        Code::Dacs => [d[0], d[1], d[2], d[3], d[4]],
+        Code::Dacs => s.dacs,
         Code::Enables => [e[0], e[1], e[2], e[3], 0],
         Code::Prescaling => [s.prescaling, 0, 0, 0, 0],
-        Code::Ping => [0, 0, 0, 0, 0],
-        Code::Rates => [0, 0, 0, 0, 0],
+        Code::Ping | Code::Rates => [0; 5],
     }
 }
 
@@ -54,26 +46,9 @@ fn words_for(code: Code, s: Settings) -> [u16; 5]
 fn before_crc(address: u8, number: u8, w: [u16; 5]) -> [u8; 28]
     ensures { result ≡ before_crc address number w }
 {
-    let a = word_bytes(w[0]);
-    let b = word_bytes(w[1]);
-    let c = word_bytes(w[2]);
-    let d = word_bytes(w[3]);
-    let e = word_bytes(w[4]);
-    let mut f = [0u8; 28];
-    f[0] = 0x40;
-    f[1] = address;
-    f[2] = 192;
-    f[4] = number;
-    f[5] = a[0];
-    f[6] = a[1];
-    f[7] = b[0];
-    f[8] = b[1];
-    f[9] = c[0];
-    f[10] = c[1];
-    f[11] = d[0];
-    f[12] = d[1];
-    f[13] = e[0];
-    f[14] = e[1];
+    let mut f = [0; 28];
+    f[..5].copy_from_slice(&[0x40, address, 192, 0, number]);
+    f[5..15].copy_from_slice(w.map(word_bytes).as_flattened());
     f
 }
 

@@ -7,8 +7,8 @@ ghost use Rattle.ftu_list.specs.List.{entry_words, entry_words_from, answered, l
 
 use blocks::{Header, put_header};
 use configuration::address_of;
-use numbers::words64;
-use refusals::Written;
+use numbers::words;
+use refusals::Refusal;
 use words::copy_words;
 
 // What a ping found of a board. One that did not answer has no calls.
@@ -37,7 +37,7 @@ fn entry_words(k: usize, e: Entry) -> [u16; 6]
         return [0, 0, 0, 0, 0, 0];
     }
     let address = address_of((k / 10) as u8, (k % 10) as u8);
-    let dna = words64(e.dna);
+    let dna = words::<4>(e.dna);
     [
         (address as u16) + 256 * (e.calls as u16),
         dna[0],
@@ -54,13 +54,11 @@ fn answered_in(entries: [Entry; 40], from: usize, to: usize) -> u16
     ensures { result ≡ answered (take (to - from) (drop from entries)) }
 {
     let mut n: u16 = 0;
-    let mut k = from;
-    while k < to {
+    for k in from..to {
         let e = entries[k];
         if e.calls != 0 {
             n += 1;
         }
-        k += 1;
     }
     n
 }
@@ -89,13 +87,11 @@ fn put_entries(entries: [Entry; 40], body: &mut [u16])
     requires { 240 ≤ length body.old }
     ensures { body.new ≡ entry_words_from 0 entries ++ drop 240 body.old }
 {
-    let mut k = 0;
-    while k < 40 {
+    for k in 0..40 {
         let e = entries[k];
         let six = entry_words(k, e);
         let at = 6 * k;
         copy_words(&six, &mut body[at..]);
-        k += 1;
     }
 }
 
@@ -111,14 +107,10 @@ fn put_list(list: FtuList, body: &mut [u16])
 }
 
 // Writes an FTU list to the front of the lent words.
-pub fn write_list(h: Header, list: FtuList, out: &mut [u16]) -> Written
+pub fn write_list(h: Header, list: FtuList, out: &mut [u16]) -> Result<usize, Refusal>
     ensures { WroteBlock [] 249 h (list_body list) out.old result out.new }
 {
-    match put_header(h, 249, out) {
-        Written::Length(_) => {
-            put_list(list, &mut out[11..]);
-            Written::Length(260)
-        }
-        Written::Refused(r) => Written::Refused(r),
-    }
+    put_header(h, 249, out)?;
+    put_list(list, &mut out[11..]);
+    Ok(260)
 }

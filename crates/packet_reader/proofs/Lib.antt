@@ -1,5 +1,4 @@
 -- Laws that belong to no one function.
 pub mod Laws
 pub mod Tables
-pub mod Injective
 pub mod Starts

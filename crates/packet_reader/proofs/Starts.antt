@@ -9,15 +9,16 @@ use native.Mathlib.Omega.{arith}
 use borrow.Author.Tests.{eqb-true, eqb-false}
 use lib.Dec.{eqb}
 use lib.ListN.{length, take, get_or, replicate, length-replicate}
+use Rattle.std.specs.Prelude.{Result, Err}
 use Rattle.crc.specs.Crc.{crc_byte, crc, packet_start}
 use Rattle.crc.proofs.Starts.{start-told}
-use Rattle.refusals.specs.Tables.{refused}
+use Rattle.refusals.specs.Tables.{refused, answer_of}
 use Rattle.refusals.specs.declared.Refusal.TheVariants.{WrongPacketCrc}
-use Rattle.packet_reader.specs.Reading.{read_meaning, packet_answer}
-use Rattle.packet_reader.specs.declared.PacketRead.{PacketRead}
-use Rattle.packet_reader.specs.declared.PacketRead.TheVariants.{Refused}
-use Rattle.packet_reader.proofs.Injective.{read-injective}
+use Rattle.packet_reader.specs.Reading.{packet_answer}
+use Rattle.refusals.proofs.Injective.{answer-injective}
 use Rattle.packet_reader.proofs.Laws.{read-13, wrong-crc}
+use Rattle.refusals.specs.declared.Refusal.{Refusal}
+use Rattle.packets.specs.declared.Packet.{Packet}
 
 -- "packets read and write with the new start only"
 pub other-start : (s : ℕ) (b : List ℕ) → s < 256 → (s ≡ packet_start → ⊥) → length b ≡ 7 → crc s (take 6 b) ≡ get_or b 6 0 → packet_answer b ≡ refused 14 0
@@ -29,8 +30,8 @@ unfolding crc_byte
 dead-cable = other-start 0x00 (replicate 7 0x00) (omega arith) (omega arith) refl refl
 
 -- and so whatever `read_packet` returns for them, by its contract, is that refusal
-pub dead-cable-read : (r : PacketRead) → read_meaning r ≡ packet_answer (replicate 7 0x00) → r ≡ Refused WrongPacketCrc
-dead-cable-read r e = read-injective r (Refused WrongPacketCrc) (e ∙ dead-cable)
+pub dead-cable-read : (r : Result Packet Refusal) → answer_of r ≡ packet_answer (replicate 7 0x00) → r ≡ Err WrongPacketCrc
+dead-cable-read r e = answer-injective r (Err WrongPacketCrc) (e ∙ dead-cable)
 
 -- of any other number of them, 13
 pub zeros-refused : (n : ℕ) → packet_answer (replicate n 0x00) ≡ refused (cond (eqb n 7) 14 13) 0

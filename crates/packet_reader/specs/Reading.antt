@@ -1,12 +1,10 @@
 -- 01, Trigger packets, 02, g, and the refusals 13 to 15: the packet in seven bytes.
 use Rattle.std.specs.Prelude.{ℕ, ◌+◌, ◌*◌, ◌/◌, ◌%◌, Bool, not, List, [], ◌∷◌, eqb, length, take, get_or}
 use Rattle.crc.specs.Crc.{crc, packet_start}
-use Rattle.refusals.specs.Tables.{Answer, given, Rule, rule, lowest, refusal_meaning}
+use Rattle.refusals.specs.Tables.{Answer, Rule, rule, lowest}
 use Rattle.packets.specs.Packets.{in_range}
 use Rattle.packets.specs.declared.Fields.{Fields}
 use Rattle.packets.specs.declared.Packet.{Packet}
-use Rattle.packet_reader.specs.declared.PacketRead.{PacketRead}
-use Rattle.packet_reader.specs.declared.PacketRead.TheVariants.{Read, Refused}
 
 -- whether a number is odd: its lowest bit
 abbrev pub is_odd : ℕ → Bool
@@ -37,11 +35,6 @@ packet_in b =
       number = number_in (get_or b 0 0) (get_or b 1 0) (get_or b 2 0) (get_or b 3 0);
       fields = fields_in (get_or b 4 0) (get_or b 5 0);
     }
-
--- what a reader answers, as 01 has it
-abbrev pub read_meaning : PacketRead → Answer Packet
-read_meaning (Read p) = given p
-read_meaning (Refused r) = refusal_meaning r
 
 -- a reader's refusals
 unfoldable pub read_rules : List ℕ → List Rule

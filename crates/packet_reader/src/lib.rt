@@ -2,19 +2,13 @@
 #![tactic(auto)]
 
 ghost use Rattle.std.specs.Prelude.{◌≡◌};
-ghost use Rattle.packet_reader.specs.Reading.{number_in, fields_in, read_meaning, packet_answer};
+ghost use Rattle.packet_reader.specs.Reading.{number_in, fields_in, packet_answer};
+ghost use Rattle.refusals.specs.Tables.{answer_of};
 
 use crc::PACKET_START;
 use packets::{Fields, Packet, in_range};
 use quick_crc::crc_of_six;
 use refusals::Refusal;
-
-// What reading finds: a packet, or a refusal.
-#[derive(Clone, Copy)]
-pub enum PacketRead {
-    Read(Packet),
-    Refused(Refusal),
-}
 
 // The number in a packet's first four bytes.
 fn number_in(b0: u8, b1: u8, b2: u8, b3: u8) -> u32
@@ -40,11 +34,11 @@ fn fields_in(type1: u8, type2: u8) -> Fields
 }
 
 // Reads a packet.
-pub fn read_packet(bytes: &[u8]) -> PacketRead
-    ensures { read_meaning result ≡ packet_answer bytes.now }
+pub fn read_packet(bytes: &[u8]) -> Result<Packet, Refusal>
+    ensures { answer_of result ≡ packet_answer bytes.now }
 {
     if bytes.len() != 7 {
-        return PacketRead::Refused(Refusal::WrongPacketLength);
+        return Err(Refusal::WrongPacketLength);
     }
     let sum = crc_of_six(
         PACKET_START,
@@ -56,12 +50,12 @@ pub fn read_packet(bytes: &[u8]) -> PacketRead
         bytes[5],
     );
     if sum != bytes[6] {
-        return PacketRead::Refused(Refusal::WrongPacketCrc);
+        return Err(Refusal::WrongPacketCrc);
     }
     let fields = fields_in(bytes[4], bytes[5]);
     if !in_range(fields) {
-        return PacketRead::Refused(Refusal::TriggerFieldOutOfRange);
+        return Err(Refusal::TriggerFieldOutOfRange);
     }
     let number = number_in(bytes[0], bytes[1], bytes[2], bytes[3]);
-    PacketRead::Read(Packet { number, fields })
+    Ok(Packet { number, fields })
 }

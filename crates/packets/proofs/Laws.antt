@@ -6,16 +6,15 @@ use mathlib.Core.Bool.{Bool, true, false, not, ◌&&◌}
 use mathlib.Core.List.{List, [], ◌∷◌, ◌++◌}
 use native.Mathlib.Omega.{arith}
 use lib.Dec.{leb}
-use lib.ListN.{length, get_or, set}
-use lib.Seq.{sets-eq}
+use lib.ListN.{length, drop}
 use borrow.Author.Tests.{le-leb, lt-leb, leb-true, not-false}
+use Rattle.std.specs.Prelude.{Result, Ok, Err}
 use Rattle.crc.specs.Crc.{crc, packet_start}
 use Rattle.refusals.specs.declared.Refusal.TheVariants.{TriggerFieldOutOfRange, OutputTooShort}
-use Rattle.refusals.specs.declared.Written.{Written}
-use Rattle.refusals.specs.declared.Written.TheVariants.{Length, Refused}
 use Rattle.refusals.proofs.Writing.{wrote, wrote-short, wrote-refused, refused≢length}
 use Rattle.packets.specs.Packets.{type1, type2, first_six, packet_bytes, in_range, write_rules, WrotePacket}
 use Rattle.packets.specs.declared.Fields.{Fields}
+use Rattle.refusals.specs.declared.Refusal.{Refusal}
 
 -- ---- the ranges
 
@@ -50,10 +49,10 @@ packet-is x f t₁ t₂ c e₁ e₂ ec =
 -- ---- the writer
 
 module _ (x : ℕ) (f : Fields) (out : List ℕ) (r : Bool) (e : r ≡ in_range f) where
-  abbrev After : Written → List ℕ → Type 0
+  abbrev After : (Result ℕ Refusal) → List ℕ → Type 0
   After w after = WrotePacket (write_rules f) x f out w after
 
-  pub write-15 : not r ≡ true → After (Refused TriggerFieldOutOfRange) out
+  pub write-15 : not r ≡ true → After (Err TriggerFieldOutOfRange) out
   write-15 h =
       record {
         wrote = wrote-refused _ _ _ TriggerFieldOutOfRange (rw (rw e at h));
@@ -61,7 +60,7 @@ module _ (x : ℕ) (f : Fields) (out : List ℕ) (r : Bool) (e : r ≡ in_range 
       }
 
   module _ (h : not r ≡ false) where
-    pub write-19 : length out < 7 → After (Refused OutputTooShort) out
+    pub write-19 : length out < 7 → After (Err OutputTooShort) out
     unfolding first_six
     write-19 s =
         record {
@@ -69,14 +68,11 @@ module _ (x : ℕ) (f : Fields) (out : List ℕ) (r : Bool) (e : r ≡ in_range 
           fits = λ m z. absurd (refused≢length OutputTooShort m z);
         }
 
-    -- after its seven stores
-    pub written : x < 2 ^ 32 → (b : List ℕ) → b ≡ packet_bytes x f → 7 ≤ length out
-        → After (Length 7)
-        (set (set (set (set (set (set (set out 0 (get_or b 0 0)) 1 (get_or b 1 0)) 2 (get_or b 2 0)) 3 (get_or b 3 0))
-        4 (get_or b 4 0)) 5 (get_or b 5 0)) 6 (get_or b 6 0))
+    -- after its seven bytes
+    pub written : x < 2 ^ 32 → (b : List ℕ) → b ≡ packet_bytes x f → 7 ≤ length out → After (Ok 7) (b ++ drop 7 out)
     unfolding first_six
     written fits b eb s =
         record {
-          wrote = wrote _ _ _ (rw e at h, tt) 7 refl _ s (rw eb (sets-eq (packet_bytes x f) out 0 s));
+          wrote = wrote _ _ _ (rw e at h, tt) 7 refl _ s (ap (λ (l : List ℕ). l ++ drop 7 out) eb);
           fits = λ m z. fits;
         }

@@ -1,11 +1,10 @@
 -- 01, Trigger packets (000, chapter 2), and 02, g: seven bytes, the last of which is the CRC of the others.
-use Rattle.std.specs.Prelude.{ℕ, ◌+◌, ◌*◌, ◌/◌, ◌%◌, ◌^◌, ◌<◌, ◌≡◌, Bool, true, false, not, ◌&&◌, List, [], ◌∷◌, ◌++◌, leb}
+use Rattle.std.specs.Prelude.{ℕ, ◌+◌, ◌*◌, ◌/◌, ◌%◌, ◌^◌, ◌<◌, ◌≡◌, Bool, true, false, not, ◌&&◌, List, [], ◌∷◌, ◌++◌, leb, Result, Ok}
 use Rattle.crc.specs.Crc.{crc, packet_start}
 use Rattle.refusals.specs.Tables.{Rule, rule}
 use Rattle.refusals.specs.Writing.{Wrote}
-use Rattle.refusals.specs.declared.Written.{Written}
-use Rattle.refusals.specs.declared.Written.TheVariants.{Length}
 use Rattle.packets.specs.declared.Fields.{Fields}
+use Rattle.refusals.specs.declared.Refusal.{Refusal}
 
 abbrev pub bit_of : Bool → ℕ
 bit_of true = 1
@@ -40,7 +39,7 @@ abbrev pub write_rules : Fields → List Rule
 write_rules f = rule 15 (not (in_range f)) ∷ []
 
 -- a writer of a packet with these rules answered r, and the lent bytes `out` became `after`
-pub record WrotePacket (rules : List Rule) (number : ℕ) (f : Fields) (out : List ℕ) (r : Written) (after : List ℕ) : Type 0 where
+pub record WrotePacket (rules : List Rule) (number : ℕ) (f : Fields) (out : List ℕ) (r : Result ℕ Refusal) (after : List ℕ) : Type 0 where
   pub wrote : Wrote rules (packet_bytes number f) out r after
   -- the four bytes of a number that is written hold it whole
-  pub fits : (m : ℕ) → r ≡ Length m → number < 2 ^ 32
+  pub fits : (m : ℕ) → r ≡ Ok m → number < 2 ^ 32

@@ -5,7 +5,7 @@ ghost use Rattle.std.specs.Prelude.{◌≡◌, ◌<◌, ◌≤◌};
 ghost use Rattle.packets.specs.Packets.{bit_of, in_range, packet_bytes, write_rules, WrotePacket};
 
 use crc::{PACKET_START, crc_of_six};
-use refusals::{Refusal, Written};
+use refusals::Refusal;
 
 // What a trigger's caller gives: all of a packet's fields but its number.
 #[derive(Clone, Copy)]
@@ -32,7 +32,7 @@ pub struct Packet {
 fn bit(flag: bool) -> u8
     ensures { (result ≡ bit_of flag) × (result < 2) }
 {
-    if flag { 1 } else { 0 }
+    u8::from(flag)
 }
 
 // Whether n and the pulser's setting are within their ranges.
@@ -65,22 +65,16 @@ fn packet_bytes(number: u32, f: Fields) -> [u8; 7]
 }
 
 // Writes a packet to the front of the lent bytes.
-pub fn write_packet(p: Packet, out: &mut [u8]) -> Written
+pub fn write_packet(p: Packet, out: &mut [u8]) -> Result<usize, Refusal>
     ensures { WrotePacket (write_rules p.fields) p.number p.fields out.old result out.new }
 {
     if !in_range(p.fields) {
-        return Written::Refused(Refusal::TriggerFieldOutOfRange);
+        return Err(Refusal::TriggerFieldOutOfRange);
     }
     if out.len() < 7 {
-        return Written::Refused(Refusal::OutputTooShort);
+        return Err(Refusal::OutputTooShort);
     }
     let bytes = packet_bytes(p.number, p.fields);
-    out[0] = bytes[0];
-    out[1] = bytes[1];
-    out[2] = bytes[2];
-    out[3] = bytes[3];
-    out[4] = bytes[4];
-    out[5] = bytes[5];
-    out[6] = bytes[6];
-    Written::Length(7)
+    out[..7].copy_from_slice(&bytes);
+    Ok(7)
 }

@@ -1,5 +1,6 @@
-// The CRC-8 of six bytes by closed forms of its polynomial, for the far end's packet reader alone: it runs on a computer, where time matters and room
-// does not. The controller has the same CRC by a table of sixteen, `crc` (02, e), with the definition and the laws of both.
+// The CRC-8 of six bytes by closed forms of its polynomial, for the packet reader alone, which runs on a computer, where time matters and room does not.
+// Packets are written with `crc`, which has the definition and the laws of each form, and frames and replies use `table_crc`.
+// (The body is that of `crc` too; 02, e, asks for it in a crate of its own.)
 #![tactic(auto)]
 
 ghost use Rattle.std.specs.Prelude.{◌≡◌, [], ◌∷◌};
@@ -11,9 +12,8 @@ ghost use Rattle.crc.specs.Crc.{crc};
 pub fn crc_of_six(start: u8, a: u8, b: u8, c: u8, d: u8, e: u8, f: u8) -> u8
     ensures { result ≡ crc start (a ∷ b ∷ c ∷ d ∷ e ∷ f ∷ []) }
 {
-    let first = (a as u32) * 65536 + (b as u32) * 256 + (c as u32);
-    let top = first ^ ((start as u32) * 65536);
-    let low = (d as u32) * 16777216 + (e as u32) * 65536 + (f as u32) * 256;
+    let top = u32::from_be_bytes([0, start ^ a, b, c]);
+    let low = u32::from_be_bytes([d, e, f, 0]);
     let once = low ^ top ^ (top << 4) ^ (top << 8);
     let second = once >> 16;
     let twice = (once % 65536) ^ second ^ (second << 2) ^ (second << 4);

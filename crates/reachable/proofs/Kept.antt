@@ -5,8 +5,8 @@ use mathlib.Core.Path.{◌≡◌, refl, sym, ◌∙◌, subst}
 use mathlib.Core.Bool.{true, false}
 use mathlib.Core.List.{List}
 use lib.ListN.{take}
+use Rattle.std.specs.Prelude.{Ok}
 use Rattle.refusals.specs.Tables.{given}
-use Rattle.refusals.specs.declared.Written.TheVariants.{Length}
 use Rattle.numbers.specs.Numbers.{id_limit}
 use Rattle.commands.specs.declared.Command.TheVariants.{Write}
 use Rattle.command_reader.specs.Reading.{block_of}
@@ -51,6 +51,6 @@ module _ (id firmware : ℕ) (i : id < id_limit) (f : firmware < 65536) (before 
       (holds-all (board_after now w) xs (holds-command now w (holds-all (fresh_board id firmware) before (holds-power-up id firmware i f))))
 
   pub static_kept : board_answer now w ≡ given Write → no_write (board_after now w) xs ≡ true
-      → (out after : List ℕ) (n : ℕ) → SendsStatic later out (Length n) after → ReadsBack Static (take n after) (header_of later) (block_of w)
+      → (out after : List ℕ) (n : ℕ) → SendsStatic later out (Ok n) after → ReadsBack Static (take n after) (header_of later) (block_of w)
   static_kept e free out after n wrote =
       subst (ReadsBack Static (take n after) (header_of later)) (block-kept now w e xs free) (static-reads later reachable-later out after n wrote)

@@ -8,10 +8,9 @@ use native.Mathlib.Nat.{mod-eq_of_lt}
 use native.Mathlib.Omega.{arith}
 use lib.ListN.{length, take}
 use borrow.Author.Tests.{eqb-false}
+use Rattle.std.specs.Prelude.{Result, Ok}
 use Rattle.refusals.specs.Tables.{given, Rule}
 use Rattle.refusals.specs.Writing.{writing_rules, Wrote}
-use Rattle.refusals.specs.declared.Written.{Written}
-use Rattle.refusals.specs.declared.Written.TheVariants.{Length}
 use Rattle.refusals.proofs.Tables.{Clear}
 use Rattle.refusals.proofs.Writing.{wrote-length, wrote-clear}
 use Rattle.packets.specs.Packets.{first_six, packet_bytes}
@@ -37,6 +36,7 @@ use Rattle.board.specs.SentOut.{header_of, list_rules, list_of, failure_rules, f
 use Rattle.board.specs.declared.Board.{Board}
 use Rattle.reachable.specs.Reachable.{Reachable}
 use Rattle.reachable.proofs.Rates.{finished-sound}
+use Rattle.refusals.specs.declared.Refusal.{Refusal}
 
 module _ (β : Board) (h : Reachable β) where
   -- the timestamp of its header fits its words
@@ -47,54 +47,54 @@ module _ (β : Board) (h : Reachable β) where
   -- ---- blocks: n words were written, from the front of what was lent
 
   module _ (out after : List ℕ) (n : ℕ) where
-    pub static-reads : SendsStatic β out (Length n) after → ReadsBack Static (take n after) (header_of β) β.block
+    pub static-reads : SendsStatic β out (Ok n) after → ReadsBack Static (take n after) (header_of β) β.block
     static-reads w = as-held (static-back (header_of β) out n after β.block w)
 
     -- whatever temperatures are lent (02, i)
-    pub dynamic-reads : (t : List ℕ) → SendsDynamic β t out (Length n) after
+    pub dynamic-reads : (t : List ℕ) → SendsDynamic β t out (Ok n) after
         → DynamicBack (take n after) (header_of β) β.run.on_time t (finished_rates β)
     dynamic-reads t w =
         let back = dynamic_back (header_of β) out n after β.run.on_time t (finished_rates β) (finished-sound β h).1 w in
         record { block = as-held back.block; on-time = back.on-time; temperatures = back.temperatures; rates = back.rates }
 
     -- whose on-time fits its words too
-    pub on-time-reads : (t : List ℕ) → SendsDynamic β t out (Length n) after
+    pub on-time-reads : (t : List ℕ) → SendsDynamic β t out (Ok n) after
         → number 65536 (take 3 (body_of Dynamic (take n after))) ≡ β.run.on_time
     on-time-reads t w = (dynamic-reads t w).on-time ∙ mod-eq_of_lt h.run.on-time
 
-    pub list-reads : SendsList β out (Length n) after → ReadsBack FtuList (take n after) (header_of β) (list_body (list_of β))
+    pub list-reads : SendsList β out (Ok n) after → ReadsBack FtuList (take n after) (header_of β) (list_body (list_of β))
     list-reads w = as-held (list_back (header_of β) out n after (list_rules β) (list_of β) w)
 
-    pub failure-reads : (i : ℕ) → SendsFailure β i out (Length n) after → ReadsBack Failure (take n after) (header_of β) (failure_body_of β i)
+    pub failure-reads : (i : ℕ) → SendsFailure β i out (Ok n) after → ReadsBack Failure (take n after) (header_of β) (failure_body_of β i)
     failure-reads i w = as-held (failure-back (header_of β) out n after (failure_rules β i) 3 _ w)
 
   -- ---- with room
 
   -- a block that no row of its own refuses
-  pub block_written : (own : List Rule) (n : ℕ) (body out : List ℕ) (r : Written) (after : List ℕ) → Clear own → length body ≡ n → 11 + n ≤ length out
-      → WroteBlock own n (header_of β) body out r after → r ≡ Length (11 + n)
+  pub block_written : (own : List Rule) (n : ℕ) (body out : List ℕ) (r : Result ℕ Refusal) (after : List ℕ) → Clear own → length body ≡ n → 11 + n ≤ length out
+      → WroteBlock own n (header_of β) body out r after → r ≡ Ok (11 + n)
   block_written own n body out r after clear l room w = block-accepts own n (header_of β) body out r after clear l room h.id w
 
   -- the static block, always
-  pub static-written : (out : List ℕ) (r : Written) (after : List ℕ) → 447 ≤ length out → SendsStatic β out r after
-      → (r ≡ Length 447) × ReadsBack Static (take 447 after) (header_of β) β.block
+  pub static-written : (out : List ℕ) (r : Result ℕ Refusal) (after : List ℕ) → 447 ≤ length out → SendsStatic β out r after
+      → (r ≡ Ok 447) × ReadsBack Static (take 447 after) (header_of β) β.block
   static-written out r after room w =
       let within : Clear (static_rules β.block) = above-clear bound_of 436 β.block (let e = h.within in omega arith) in
-      let e : r ≡ Length 447 = block_written (static_rules β.block) 436 β.block out r after within h.length-block room w in
-      (e, static-reads out after 447 (subst (λ (x : Written). SendsStatic β out x after) e w))
+      let e : r ≡ Ok 447 = block_written (static_rules β.block) 436 β.block out r after within h.length-block room w in
+      (e, static-reads out after 447 (subst (λ (x : Result ℕ Refusal). SendsStatic β out x after) e w))
 
   -- the dynamic block, with any four temperatures: a board gives no 8 there
-  pub dynamic-written : (t out : List ℕ) (r : Written) (after : List ℕ) → length t ≡ 4 → 498 ≤ length out → SendsDynamic β t out r after
-      → (r ≡ Length 498) × DynamicBack (take 498 after) (header_of β) β.run.on_time t (finished_rates β)
+  pub dynamic-written : (t out : List ℕ) (r : Result ℕ Refusal) (after : List ℕ) → length t ≡ 4 → 498 ≤ length out → SendsDynamic β t out r after
+      → (r ≡ Ok 498) × DynamicBack (take 498 after) (header_of β) β.run.on_time t (finished_rates β)
   dynamic-written t out r after four room w =
       let body = dynamic_body β.run.on_time t (finished_rates β) in
       let size = length-dynamic t β.run.on_time (finished_rates β) four (finished-sound β h).0 in
-      let e : r ≡ Length 498 = block_written (temperature_rules t) 487 body out r after (right-length t four) size room w.block in
-      (e, dynamic-reads out after 498 t (subst (λ (x : Written). SendsDynamic β t out x after) e w))
+      let e : r ≡ Ok 498 = block_written (temperature_rules t) 487 body out r after (right-length t four) size room w.block in
+      (e, dynamic-reads out after 498 t (subst (λ (x : Result ℕ Refusal). SendsDynamic β t out x after) e w))
 
   -- ---- packets
 
-  pub packet-reads : (out after : List ℕ) (n : ℕ) (f : Fields) → Wrote (trigger_rules β.run f) (packet_bytes (trigger_number β.run) f) out (Length n) after
+  pub packet-reads : (out after : List ℕ) (n : ℕ) (f : Fields) → Wrote (trigger_rules β.run f) (packet_bytes (trigger_number β.run) f) out (Ok n) after
       → (n ≡ 7) × (packet_answer (take n after) ≡ given (record { number = trigger_number β.run; fields = f }))
   unfolding trigger_rules first_six
   packet-reads out after n f w =

@@ -8,11 +8,11 @@ use mathlib.Core.Bool.{Bool, true, false, cond, not, ◌&&◌, ◌||◌}
 use mathlib.Core.List.{List, [], ◌∷◌, ◌++◌}
 use native.Mathlib.Omega.{arith}
 use lib.Dec.{eqb}
-use Rattle.refusals.specs.Tables.{Answer, given, refused, answer_number}
+use Rattle.refusals.specs.Tables.{Answer, given, refused, answer_number, answer_of}
 use Rattle.commands.specs.Commands.{is_write}
 use Rattle.commands.specs.declared.Command.{Command}
 use Rattle.commands.specs.declared.Command.TheVariants.{Read, Write, Start, Stop, CrateReset}
-use Rattle.acceptance.specs.Acceptance.{answer_meaning, decided}
+use Rattle.acceptance.specs.Acceptance.{decided}
 use Rattle.acceptance.specs.declared.Status.{Status}
 use Rattle.acceptance.proofs.Deciding.{by_state}
 use Rattle.run.specs.Run.{is_running, is_fresh, used_by}
@@ -79,8 +79,8 @@ module _ (β : Board) (w : List ℕ) (e : Explanation) (h : Explains (explained_
   true-of-calls r o =
       let p = present_of β in
       let t = true-reason w p in
-      let same : answer_meaning r.answer ≡ answered w p = o.answer ∙ sym (answer-same β w) in
-      let number : explained_number (explanation_meaning e) ≡ answer_number (answer_meaning r.answer) =
+      let same : answer_of r.answer ≡ answered w p = o.answer ∙ sym (answer-same β w) in
+      let number : explained_number (explanation_meaning e) ≡ answer_number (answer_of r.answer) =
       ap explained_number h.meaning ∙ t.number ∙ ap answer_number (sym same) in
       record {
         number = number;

@@ -1,9 +1,7 @@
 -- 02, i, over the contracts of the public calls alone: three series of calls from one board, of items with others between, of the items alone, and of the
 -- others alone, and what a caller then sees (`NothingBetweenCalls`).
 use Rattle.std.specs.Prelude.{ℕ, ◌≡◌, List, [], ◌∷◌, map}
-use Rattle.refusals.specs.Writing.{written_meaning}
 use Rattle.packets.specs.declared.Fields.{Fields}
-use Rattle.acceptance.specs.Acceptance.{answer_meaning}
 use Rattle.run.specs.Run.{is_running}
 use Rattle.board.specs.Commands.{Obeys, TriggersOn, after_clock_step}
 use Rattle.board.specs.SentOut.{header_of}
@@ -14,6 +12,7 @@ use Rattle.any_order.specs.AnyOrder.{Seen}
 use Rattle.any_order.specs.Calls.{ServedItem, Keeps, board_then, seen}
 use Rattle.reachable.specs.Stays.{PassStays}
 use Rattle.reachable.specs.Between.{Other, trigger, clock_step, stop, stop_words, OtherResult, Act, item, other}
+use Rattle.refusals.specs.Tables.{answer_of}
 
 -- ---- one of the others, with what was returned
 
@@ -42,9 +41,9 @@ board_then_of (stopped words r) = r.board
 
 -- what it got, as 01 has it
 abbrev pub result_seen : ServedOther → OtherResult
-result_seen (triggered f out t after) = OtherResult.triggered (written_meaning t.answer) after
+result_seen (triggered f out t after) = OtherResult.triggered (answer_of t.answer) after
 result_seen (clocked ticks γ) = OtherResult.clocked
-result_seen (stopped words r) = OtherResult.stopped (answer_meaning r.answer)
+result_seen (stopped words r) = OtherResult.stopped (answer_of r.answer)
 
 abbrev pub other_seen : ServedOther → Other × OtherResult
 other_seen o = (other_of o, result_seen o)

@@ -1,8 +1,7 @@
 -- What stays from one pass to the next, from one ping to the next, and from one rate pass to the next, as the calls give it.
-use Rattle.std.specs.Prelude.{ℕ, ◌≡◌, true, false, ◌&&◌, List, ◌++◌, ◌⊎◌, take, replicate}
+use Rattle.std.specs.Prelude.{ℕ, ◌≡◌, true, false, ◌&&◌, List, ◌++◌, ◌⊎◌, take, replicate, Ok}
 use Rattle.refusals.specs.Tables.{Answer}
 use Rattle.refusals.specs.Writing.{writing_by}
-use Rattle.refusals.specs.declared.Written.TheVariants.{Length}
 use Rattle.blocks.specs.Blocks.{header_words, block_rules, dynamic_body}
 use Rattle.crate_pass.specs.Crate.{clears_list, is_rate_pass}
 use Rattle.four_crates.specs.FourCrates.{in_pass, records}
@@ -18,7 +17,7 @@ IsBlock β body words = words ≡ header_words (header_of β) ++ body
 
 -- `ftu_list` gives this body wherever it is accepted
 abbrev pub GivesList : Board → List ℕ → Type 0
-GivesList β body = (out after : List ℕ) (n : ℕ) → SendsList β out (Length n) after → IsBlock β body (take n after)
+GivesList β body = (out after : List ℕ) (n : ℕ) → SendsList β out (Ok n) after → IsBlock β body (take n after)
 
 -- "The list at power-up is 249 zeros"
 abbrev pub list_at_power_up : List ℕ
@@ -26,7 +25,7 @@ list_at_power_up = replicate 249 0
 
 -- `failure_message` gives this body for an ordinal wherever it is accepted
 abbrev pub GivesMessage : Board → ℕ → List ℕ → Type 0
-GivesMessage β n body = (out after : List ℕ) (m : ℕ) → SendsFailure β n out (Length m) after → IsBlock β body (take m after)
+GivesMessage β n body = (out after : List ℕ) (m : ℕ) → SendsFailure β n out (Ok m) after → IsBlock β body (take m after)
 
 -- what it answers, with `out` lent
 abbrev pub message_answer : Board → ℕ → List ℕ → Answer ℕ
@@ -40,7 +39,7 @@ NoPingUnderWay β = (clears_list β.kind ≡ false) ⊎ (in_pass β.crates ≡ f
 -- 02, i: `dynamic_block` gives these rates wherever it is accepted, with whatever temperatures
 abbrev pub GivesRates : Board → List ℕ → Type 0
 GivesRates β rates =
-    (t out after : List ℕ) (n : ℕ) → SendsDynamic β t out (Length n) after → IsBlock β (dynamic_body β.run.on_time t rates) (take n after)
+    (t out after : List ℕ) (n : ℕ) → SendsDynamic β t out (Ok n) after → IsBlock β (dynamic_body β.run.on_time t rates) (take n after)
 
 -- "zeros before the first": twelve words for each of forty boards
 abbrev pub rates_at_power_up : List ℕ

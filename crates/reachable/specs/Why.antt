@@ -1,12 +1,11 @@
 -- 02, c, over the contracts of the public calls, from any state (`TrueOfCalls`); and over whole sequences of calls, why nothing is fresh.
 use Rattle.std.specs.Prelude.{ℕ, ◌<◌, ◌≤◌, ◌≡◌, Bool, true, false, cond, ◌||◌, List, [], ◌∷◌, ◌++◌, ltb, eqb, length, get_or}
-use Rattle.refusals.specs.Tables.{Answer, given, refused, answer_number}
+use Rattle.refusals.specs.Tables.{Answer, given, refused, answer_number, answer_of}
 use Rattle.commands.specs.Commands.{is_write}
 use Rattle.commands.specs.declared.Command.{Command}
 use Rattle.commands.specs.declared.Command.TheVariants.{Read, Write, Start, Stop, Ping, CrateReset}
 use Rattle.commands.specs.declared.RunLength.{RunLength}
 use Rattle.command_reader.specs.Reading.{taken, command_answer}
-use Rattle.acceptance.specs.Acceptance.{answer_meaning}
 use Rattle.run.specs.Run.{is_running, is_fresh}
 use Rattle.run.specs.declared.Freshness.{Freshness}
 use Rattle.run.specs.declared.Freshness.TheVariants.{NeverWritten, Fresh, UsedByRun, UsedByReset}
@@ -39,18 +38,18 @@ pub record TrueWordOfCalls (β : Board) (w : List ℕ) (n place stands : ℕ) (a
 -- e is what `explain` gives for the words w on the board β, and r what `obey` gives
 pub record TrueOfCalls (β : Board) (w : List ℕ) (e : Explanation) (r : CommandResult) : Type 0 where
   -- "the explanation names the refusal that the board itself gives", for 8 with its place
-  pub number : explained_number (explanation_meaning e) ≡ answer_number (answer_meaning r.answer)
+  pub number : explained_number (explanation_meaning e) ≡ answer_number (answer_of r.answer)
   pub eighth : (place stands : ℕ) (allowed : AllowedThere) → explanation_meaning e ≡ at_fault 8 place stands allowed
-      → answer_meaning r.answer ≡ refused 8 place
+      → answer_of r.answer ≡ refused 8 place
   -- "Accepted commands are explained as accepted", and no others
-  pub accepts : (c : Command) → answer_meaning r.answer ≡ given c → explanation_meaning e ≡ accepted
-  pub accepted-only : explanation_meaning e ≡ accepted → answer_number (answer_meaning r.answer) ≡ 0
+  pub accepts : (c : Command) → answer_of r.answer ≡ given c → explanation_meaning e ≡ accepted
+  pub accepted-only : explanation_meaning e ≡ accepted → answer_number (answer_of r.answer) ≡ 0
   pub word : (n place stands : ℕ) (allowed : AllowedThere) → explanation_meaning e ≡ at_fault n place stands allowed
       → TrueWordOfCalls β w n place stands allowed
   -- with so many words added, whatever they are, `obey` no longer gives that refusal; with fewer it does
   pub some : (n k : ℕ) → explanation_meaning e ≡ missing n k → 1 ≤ k
   pub added : (n k : ℕ) → explanation_meaning e ≡ missing n k → (more : List ℕ) (s : CommandResult) → Obeys β (w ++ more) s
-      → eqb (answer_number (answer_meaning s.answer)) n ≡ ltb (length more) k
+      → eqb (answer_number (answer_of s.answer)) n ≡ ltb (length more) k
   -- "for 9 the present state, with the kind of pass"
   pub state : (a : Activity) → explanation_meaning e ≡ in_state a → a ≡ activity_of (is_running β.run) (in_pass β.crates) β.kind
   -- for 10, what the state keeps

@@ -5,11 +5,9 @@ use Prim.Native.Nat.{ℕ, zero, suc}
 use mathlib.Core.Path.{◌≡◌, refl, sym, ap, ap₂, ◌∙◌}
 use mathlib.Core.List.{List, [], ◌∷◌}
 use lib.ListN.{get_or}
+use Rattle.std.specs.Prelude.{Result, Ok, Err}
 use Rattle.refusals.specs.Refusals.{number_of, place_of}
-use Rattle.refusals.specs.Tables.{Answer, given, refused, refusal_meaning}
-use Rattle.refusals.specs.Writing.{written_meaning}
-use Rattle.refusals.specs.declared.Written.{Written}
-use Rattle.refusals.specs.declared.Written.TheVariants.{Length, Refused}
+use Rattle.refusals.specs.Tables.{Answer, given, refused, refusal_meaning, answer_of}
 use Rattle.refusals.specs.declared.Refusal.{Refusal}
 use Rattle.refusals.specs.declared.Refusal.TheVariants.{TooFewWords, WrongFirstWord, UnknownCommand, UnlistedParameter, SpareWordNotZero}
 use Rattle.refusals.specs.declared.Refusal.TheVariants.{WrongLength, NoEvents, AboveBound, NotAcceptedNow, NotFresh}
@@ -72,9 +70,10 @@ refusal-injective {A} r s e =
     let p : place_of r ≡ place_of s = cc in
     sym (refusal-back r) ∙ ap₂ refusal_of n p ∙ refusal-back s
 
-pub written-injective : Injective written_meaning
-written-injective = inverse-injective written_meaning Length Refused go
+-- so no two results or refusals read as the same answer
+pub answer-injective : {A : Type 0} → Injective (answer_of {A = A})
+answer-injective {A} = inverse-injective answer_of Ok Err go
   where
-    go : (w : Written) → value_of Length Refused (written_meaning w) ≡ w
-    go (Length n) = refl
-    go (Refused r) = ap Refused (refusal-back r)
+    go : (x : Result A Refusal) → value_of Ok Err (answer_of x) ≡ x
+    go (Ok a) = refl
+    go (Err r) = ap Err (refusal-back r)

@@ -7,75 +7,56 @@ use script::{Reading, line_begun, read_on};
 use std::io;
 use std::io::Read;
 
-// The board, and what is read of the next line.
-#[derive(Clone, Copy)]
-struct ReplayState {
+// The board, what is read of the next line, and the bytes that its digits make.
+#[derive(Drop)]
+struct Replay {
     board: Board,
     reading: Reading,
+    bytes: [u8; 2048],
 }
 
-// Prints the front of a text.
-fn print(rt: &impl Print, text: [u8; 2560], length: usize) -> io::Result<()> {
-    if length <= 2560 {
-        rt.write_all(&text[..length])?;
-    }
-    Ok(())
-}
-
-// Serves a line that is read, prints what it gets, and gives the board after it.
-fn serve(rt: &impl Print, board: Board, reading: Reading, bytes: &[u8]) -> io::Result<Board> {
-    let mut text = [0u8; 2560];
-    let served = serve_line(board, reading, bytes, &mut text);
-    let next = served.board;
-    print(rt, text, served.length)?;
-    Ok(next)
-}
-
-// Serves each line that ends in a part of the input.
-fn serve_part(
-    rt: &impl Print,
-    state: ReplayState,
-    part: &[u8],
-    bytes: &mut [u8; 2048],
-) -> io::Result<ReplayState> {
-    let mut board = state.board;
-    let mut reading = state.reading;
-    for character in part {
-        if *character == b'\n' {
-            board = serve(rt, board, reading, bytes)?;
-            reading = line_begun();
-        } else {
-            reading = read_on(reading, *character, bytes);
+impl Replay {
+    // Serves the line that is read, prints what it gets, and begins the next.
+    fn serve(&mut self, rt: &impl Print) -> io::Result<()> {
+        let mut text = [0; 2560];
+        let served = serve_line(self.board, self.reading, &self.bytes, &mut text);
+        self.board = served.board;
+        self.reading = line_begun();
+        if let Some(printed) = text.get(..served.length) {
+            rt.write_all(printed)?;
         }
+        Ok(())
     }
-    Ok(ReplayState { board, reading })
-}
 
-// The last line may end with the input.
-fn serve_last(rt: &impl Print, state: ReplayState, bytes: [u8; 2048]) -> io::Result<()> {
-    let board = state.board;
-    let reading = state.reading;
-    serve(rt, board, reading, &bytes)?;
-    Ok(())
+    // Reads a part of the input, and serves each line that ends in it.
+    fn read(&mut self, rt: &impl Print, part: &[u8]) -> io::Result<()> {
+        for character in part {
+            if *character == b'\n' {
+                self.serve(rt)?;
+            } else {
+                self.reading = read_on(self.reading, *character, &mut self.bytes);
+            }
+        }
+        Ok(())
+    }
 }
 
 fn main(rt: HostRuntime) -> io::Result<()> {
-    let up = power_up(0, 0);
-    let fresh = up.board;
-    let mut state = ReplayState {
-        board: fresh,
+    let mut replay = Replay {
+        board: power_up(0, 0).board,
         reading: line_begun(),
+        bytes: [0; 2048],
     };
-    let mut bytes = [0u8; 2048];
-    let mut input = [0u8; 4096];
+    let mut input = [0; 4096];
     let mut reader = rt.reader();
     // Input ends long before so many parts of it are read.
     for _ in 0..u64::MAX {
-        let n = reader.read(&mut input)?;
-        if n == 0 {
+        let count = reader.read(&mut input)?;
+        if count == 0 {
             break;
         }
-        state = serve_part(&rt, state, &input[..n], &mut bytes)?;
+        replay.read(&rt, &input[..count])?;
     }
-    serve_last(&rt, state, bytes)
+    // The last line may end with the input.
+    replay.serve(&rt)
 }

@@ -1,15 +1,16 @@
 // Replies to slow-control frames: when one is good, and what a good reply to a ping and one with rates carry.
 #![tactic(auto)]
 
-ghost use Rattle.std.specs.Prelude.{◌≡◌, ◌-◌, ◌<◌, length, get_or};
-ghost use Rattle.replies.specs.Replies.{same_from, dna_in, count_in, rate_data, data_right, good_reply, carried_in, rates_in};
+ghost use Rattle.std.specs.Prelude.{◌≡◌, ◌<◌, get_or};
+ghost use Rattle.replies.specs.Replies.{dna_in, count_in, rate_data, data_right, good_reply, carried_in, rates_in};
 
 use crc::FRAME_START;
-use numbers::{ID_LIMIT, number32, number64, word, words32};
+use numbers::{ID_LIMIT, words};
+use std::array::from_fn;
 use table_crc::crc8;
 
-// 2^30: a trigger count is below it.
-const COUNT_LIMIT: u32 = 1073741824;
+// A trigger count is below it.
+const COUNT_LIMIT: u32 = 1 << 30;
 
 // What a ping reply carries.
 #[derive(Clone, Copy)]
@@ -22,36 +23,14 @@ pub struct PingReply {
 fn byte_at(bytes: &[u8], place: usize) -> u8
     ensures { result ≡ get_or bytes.now place 0 }
 {
-    if place < bytes.len() { bytes[place] } else { 0 }
+    bytes.get(place).copied().unwrap_or(0)
 }
 
-// Whether the reply's data from a place on, to byte 25, are those of another frame. Each byte is looked at, so that several are compared at once.
-fn same_from(from: usize, other: [u8; 28], reply: &[u8]) -> bool
-    requires { length reply.now ≡ 28 }
-    ensures { result ≡ same_from (26 - from) from other reply.now }
-{
-    let mut same = true;
-    let mut i = from;
-    while i < 26 {
-        if reply[i] != other[i] {
-            same = false;
-        }
-        i += 1;
-    }
-    same
-}
-
-// The DNA in a ping reply.
+// The DNA in a ping reply; a byte that is not there counts as 0.
 fn dna_in(reply: &[u8]) -> u64
-    requires { length reply.now ≡ 28 }
     ensures { result ≡ dna_in reply.now }
 {
-    number64(
-        word(reply[5], reply[6]),
-        word(reply[7], reply[8]),
-        word(reply[9], reply[10]),
-        word(reply[11], reply[12]),
-    )
+    u64::from_be_bytes(from_fn(|i| byte_at(reply, 5 + i)))
 }
 
 // The count of a patch, or the total after those of the four patches; a byte that is not there counts as 0.
@@ -59,51 +38,39 @@ fn count_in(reply: &[u8], patch: usize) -> u32
     requires { patch < 5 }
     ensures { result ≡ count_in reply.now patch }
 {
-    let at = 4 * patch;
-    number32(
-        word(byte_at(reply, 5 + at), byte_at(reply, 6 + at)),
-        word(byte_at(reply, 7 + at), byte_at(reply, 8 + at)),
-    )
+    u32::from_be_bytes(from_fn(|i| byte_at(reply, 5 + 4 * patch + i)))
 }
 
 // Whether each of the five counts is below 2^30.
-fn counts_below(reply: &[u8]) -> bool
+fn counts_below(reply: &[u8; 28]) -> bool
     ensures { result ≡ rate_data reply.now }
 {
-    let mut patch = 0;
-    while patch < 5 {
+    for patch in 0..5 {
         if COUNT_LIMIT <= count_in(reply, patch) {
             return false;
         }
-        patch += 1;
     }
     true
 }
 
 // Whether the reply's data are right for the frame sent.
-fn data_right(sent: [u8; 28], reply: &[u8]) -> bool
-    requires { length reply.now ≡ 28 }
+fn data_right(sent: [u8; 28], reply: &[u8; 28]) -> bool
     ensures { result ≡ data_right sent reply.now }
 {
-    if sent[4] == 4 {
-        if ID_LIMIT <= dna_in(reply) {
-            return false;
-        }
-        return same_from(13, [0u8; 28], reply);
+    match sent[4] {
+        4 => dna_in(reply) < ID_LIMIT && reply[13..26] == [0; 13],
+        5 => counts_below(reply),
+        _ => reply[5..26] == sent[5..26],
     }
-    if sent[4] == 5 {
-        return counts_below(reply);
-    }
-    same_from(5, sent, reply)
 }
 
 // Whether a reply is good for the frame sent.
 pub fn is_good(sent: [u8; 28], reply: &[u8]) -> bool
     ensures { result ≡ good_reply sent reply.now }
 {
-    if reply.len() != 28 {
+    let Ok(reply) = <&[u8; 28]>::try_from(reply) else {
         return false;
-    }
+    };
     if reply[0] != 0x40 {
         return false;
     }
@@ -117,36 +84,18 @@ pub fn is_good(sent: [u8; 28], reply: &[u8]) -> bool
         return false;
     }
     // The register after a right CRC is 0.
-    if crc8(FRAME_START, &reply[..28]) != 0 {
+    if crc8(FRAME_START, reply) != 0 {
         return false;
     }
-    data_right(sent, &reply[..28])
-}
-
-// The DNA in a ping reply of another length.
-fn dna_in_any(reply: &[u8]) -> u64
-    ensures { result ≡ dna_in reply.now }
-{
-    number64(
-        word(byte_at(reply, 5), byte_at(reply, 6)),
-        word(byte_at(reply, 7), byte_at(reply, 8)),
-        word(byte_at(reply, 9), byte_at(reply, 10)),
-        word(byte_at(reply, 11), byte_at(reply, 12)),
-    )
+    data_right(sent, reply)
 }
 
 // What a ping reply carries; a byte that is not there counts as 0.
 pub fn carried(reply: &[u8]) -> PingReply
     ensures { result ≡ carried_in reply.now }
 {
-    if reply.len() == 28 {
-        return PingReply {
-            dna: dna_in(reply),
-            crc_errors: reply[26],
-        };
-    }
     PingReply {
-        dna: dna_in_any(reply),
+        dna: dna_in(reply),
         crc_errors: byte_at(reply, 26),
     }
 }
@@ -155,11 +104,11 @@ pub fn carried(reply: &[u8]) -> PingReply
 pub fn rates_in(reply: &[u8]) -> [u16; 12]
     ensures { result ≡ rates_in reply.now }
 {
-    let a = words32(count_in(reply, 0));
-    let b = words32(count_in(reply, 1));
-    let c = words32(count_in(reply, 2));
-    let d = words32(count_in(reply, 3));
-    let total = words32(count_in(reply, 4));
+    let a = words::<2>(count_in(reply, 0) as u64);
+    let b = words::<2>(count_in(reply, 1) as u64);
+    let c = words::<2>(count_in(reply, 2) as u64);
+    let d = words::<2>(count_in(reply, 3) as u64);
+    let total = words::<2>(count_in(reply, 4) as u64);
     [
         a[0],
         a[1],

@@ -7,16 +7,16 @@ use mathlib.Core.Path.{◌≡◌, refl, sym, ap, ap₂, ◌∙◌}
 use mathlib.Core.Logic.{inl}
 use mathlib.Core.List.{List}
 use lib.ListN.{length, get_or, set, take, drop, length-drop}
+use Rattle.std.specs.Prelude.{Err}
 use Rattle.refusals.specs.declared.Refusal.TheVariants.{NoSuchCrate}
 use Rattle.words.proofs.Laws.{part-rest}
 use Rattle.configuration.specs.Configuration.{active_word}
 use Rattle.steps.specs.declared.Event.{Event}
 use Rattle.steps.specs.declared.Event.TheVariants.{Reply, TimeUp}
-use Rattle.crate_pass.specs.Crate.{reply_meaning, judged_on, Serves}
+use Rattle.crate_pass.specs.Crate.{judged_on, Serves}
 use Rattle.crate_pass.specs.declared.PassKind.{PassKind}
 use Rattle.crate_pass.specs.declared.Crate.{Crate}
 use Rattle.crate_pass.specs.declared.CrateResult.{CrateResult}
-use Rattle.crate_pass.specs.declared.ReplyAnswer.TheVariants.{Refused}
 use Rattle.four_crates.specs.FourCrates.{crate_of}
 use Rattle.board.specs.State.{with_crates}
 use Rattle.board.specs.SlowControl.{judged_at, Replies}
@@ -24,6 +24,7 @@ use Rattle.board.specs.declared.Board.{Board}
 use Rattle.board.specs.declared.ReplyResult.{ReplyResult}
 use Rattle.board.proofs.Serving.{answer-high, board-high, bytes-refused, judged-at, replies-at}
 use Rattle.reply_series.specs.Series.{item_size, good_outcome, counts, SoFar, after_first, after_items, after_all, series_on, Counts, with_pass}
+use Rattle.refusals.specs.Tables.{answer_of}
 
 abbrev pub so_far : Board → List ℕ → ℕ → SoFar
 so_far β lent number = record { board = β; lent = lent; number = number }
@@ -55,7 +56,7 @@ module _ (event : Event) (size : ℕ) (e : size ≡ item_size event) (rest : Lis
   -- the next item, on the board β with the bytes `lent`, where `number` counted so far
   module _ (β : Board) (lent : List ℕ) (number : ℕ) (r : ReplyResult) (after : List ℕ)
       (s : Replies β (get_or rest 0 0) (judged_at β (get_or rest 0 0) event (take (size - 1) (drop 1 rest))) lent r after)
-      (g : ℕ) (eg : g ≡ counts event (reply_meaning r.answer)) where
+      (g : ℕ) (eg : g ≡ counts event (answer_of r.answer)) where
     handed-in : so_far r.board after (number + g) ≡ after_first event (so_far β lent number) rest
     unfolding after_first
     handed-in =
@@ -98,13 +99,13 @@ module _ (block : List ℕ) (kind : PassKind) (cs : List Crate) (rest lent : Lis
       let γ = with_pass β block kind cs in
       let h = judged_at γ index Reply reply in
       let e = answer-high γ index h lent m in
-      let s : Replies γ index h lent (record { board = γ; answer = Refused NoSuchCrate }) lent =
+      let s : Replies γ index h lent (record { board = γ; answer = Err NoSuchCrate }) lent =
       record { answer = sym e; board = sym (board-high γ index h lent m); bytes = sym (bytes-refused γ index h lent 11 0 e) } in
       rw (el, ec, en ∙ sym (add-zero number)) (item-turn Reply 29 refl rest γ lent number _ lent s 0 refl l)
 
   pub turn-served : index ≤ 3 → (w : ℕ) → w ≡ active_word block index → (r : CrateResult) (after : List ℕ)
       → Serves kind w block index (crate_of cs index) (judged_on block index (crate_of cs index) Reply reply) lent r after
-      → (g : ℕ) → g ≡ good_outcome (reply_meaning r.answer)
+      → (g : ℕ) → g ≡ good_outcome (answer_of r.answer)
       → (cs' : List Crate) (lent' : List ℕ) (number' : ℕ) → lent' ≡ after → cs' ≡ set cs index r.state → number' ≡ number + g
       → (β : Board) → GoesOn cs' lent' number' β
   unfolding with_pass with_crates

@@ -3,13 +3,13 @@
 #![tactic(auto)]
 
 ghost use Rattle.std.specs.Prelude.{◌≡◌, ◌≤◌};
-ghost use Rattle.refusals.specs.Tables.{is_given};
-ghost use Rattle.crate_pass.specs.Crate.{reply_meaning};
+ghost use Rattle.refusals.specs.Tables.{answer_of};
 ghost use Rattle.reply_series.specs.Series.{item_size, good_outcome, counts, Counts, CountsGood};
 
 use board::Board;
 use configuration::active_word;
-use crate_pass::{Crate, Outcome, PassKind, ReplyAnswer};
+use crate_pass::{Crate, Outcome, PassKind};
+use refusals::{Refusal, count_given};
 use steps::Event;
 
 // The bytes of an item.
@@ -23,36 +23,26 @@ fn item_size(event: Event) -> usize
 }
 
 // Whether an answer is good: 1, else 0.
-fn good_count(answer: ReplyAnswer) -> u64
-    ensures { (result ≡ good_outcome (reply_meaning answer)) × (result ≤ 1) }
+fn good_count(answer: Result<Outcome, Refusal>) -> u64
+    ensures { (result ≡ good_outcome (answer_of answer)) × (result ≤ 1) }
 {
     match answer {
-        ReplyAnswer::Served(o) => match o {
+        Ok(o) => match o {
             Outcome::Good(_) => 1,
             Outcome::Again(_) => 0,
             Outcome::BoardFailed(_) => 0,
         },
-        ReplyAnswer::Refused(_) => 0,
-    }
-}
-
-// Whether an item is served: 1, else 0.
-fn served_count(answer: ReplyAnswer) -> u64
-    ensures { (result ≡ is_given (reply_meaning answer)) × (result ≤ 1) }
-{
-    match answer {
-        ReplyAnswer::Served(_) => 1,
-        ReplyAnswer::Refused(_) => 0,
+        Err(_) => 0,
     }
 }
 
 // Whether an item counts, a reply where it is good, a time-up where it is served: 1, else 0.
-fn count_of(event: Event, answer: ReplyAnswer) -> u64
-    ensures { (result ≡ counts event (reply_meaning answer)) × (result ≤ 1) }
+fn count_of(event: Event, answer: Result<Outcome, Refusal>) -> u64
+    ensures { (result ≡ counts event (answer_of answer)) × (result ≤ 1) }
 {
     match event {
         Event::Reply => good_count(answer),
-        Event::TimeUp => served_count(answer),
+        Event::TimeUp => count_given(&answer),
     }
 }
 
@@ -69,6 +59,7 @@ pub fn good_replies(
     let mut crates = first;
     let mut good = 0;
     let mut rest = items;
+    // (Parts are taken off the front of what is left, as `after_items` of the specs takes them.)
     while 29 <= rest.len() {
         let index = rest[0];
         if index < 4 {
@@ -94,6 +85,7 @@ pub fn count_on_board(mut board: Board, event: Event, items: &[u8], frame: &mut 
     let size = item_size(event);
     let mut count = 0;
     let mut rest = items;
+    // (The same.)
     while size <= rest.len() {
         let replied = board.hand_in(rest[0], event, &rest[1..size], frame);
         let answer = replied.answer;

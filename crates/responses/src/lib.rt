@@ -2,14 +2,12 @@
 #![tactic(auto)]
 
 ghost use Rattle.refusals.specs.Refusals.{number_of, place_of};
-ghost use Rattle.refusals.specs.Writing.{written_meaning};
-ghost use Rattle.acceptance.specs.Acceptance.{answer_meaning};
-ghost use Rattle.crate_pass.specs.Crate.{reply_meaning};
 ghost use Rattle.responses.specs.Responses.{refusal_printed, command_printed, Prints, PrintsOutcome, PrintsWrittenBytes, PrintsWrittenWords};
+ghost use Rattle.refusals.specs.Tables.{answer_of};
 
-use acceptance::CommandAnswer;
-use crate_pass::ReplyAnswer;
-use refusals::{Refusal, Written};
+use commands::Command;
+use crate_pass::Outcome;
+use refusals::Refusal;
 use texts::Response;
 
 // A refusal's number, and for 8 the place.
@@ -23,12 +21,12 @@ pub fn refusal_response(refusal: Refusal) -> Response
 }
 
 // What is printed for a command.
-pub fn command_response(answer: CommandAnswer, used: usize) -> Response
-    ensures { Prints result (command_printed used (answer_meaning answer)) }
+pub fn command_response(answer: Result<Command, Refusal>, used: usize) -> Response
+    ensures { Prints result (command_printed used (answer_of answer)) }
 {
     match answer {
-        CommandAnswer::Obeyed(c) => Response::Done(used, c),
-        CommandAnswer::Refused(r) => match r {
+        Ok(c) => Response::Done(used, c),
+        Err(r) => match r {
             Refusal::AboveBound(place) => Response::Three(8, used, place),
             _ => Response::Two(r.number() as usize, used),
         },
@@ -36,31 +34,31 @@ pub fn command_response(answer: CommandAnswer, used: usize) -> Response
 }
 
 // What is printed for a reply or a time-up, with the lent bytes beside it.
-pub fn outcome_response(answer: ReplyAnswer) -> Response
-    ensures { PrintsOutcome result (reply_meaning answer) }
+pub fn outcome_response(answer: Result<Outcome, Refusal>) -> Response
+    ensures { PrintsOutcome result (answer_of answer) }
 {
     match answer {
-        ReplyAnswer::Served(o) => Response::Served(o),
-        ReplyAnswer::Refused(r) => refusal_response(r),
+        Ok(o) => Response::Served(o),
+        Err(r) => refusal_response(r),
     }
 }
 
 // Bytes that were written, or why not.
-pub fn bytes_response(written: Written) -> Response
-    ensures { PrintsWrittenBytes result (written_meaning written) }
+pub fn bytes_response(written: Result<usize, Refusal>) -> Response
+    ensures { PrintsWrittenBytes result (answer_of written) }
 {
     match written {
-        Written::Length(n) => Response::Bytes(n),
-        Written::Refused(r) => refusal_response(r),
+        Ok(n) => Response::Bytes(n),
+        Err(r) => refusal_response(r),
     }
 }
 
-// Words that were written, or why not.
-pub fn words_response(written: Written) -> Response
-    ensures { PrintsWrittenWords result (written_meaning written) }
+// Words that were written, or why not. (One function that takes the case would be no plainer than two of two lines.)
+pub fn words_response(written: Result<usize, Refusal>) -> Response
+    ensures { PrintsWrittenWords result (answer_of written) }
 {
     match written {
-        Written::Length(n) => Response::Words(n),
-        Written::Refused(r) => refusal_response(r),
+        Ok(n) => Response::Words(n),
+        Err(r) => refusal_response(r),
     }
 }

@@ -9,8 +9,8 @@ use native.Mathlib.Omega.{arith}
 use lib.ListN.{length, get_or, take, drop, length-append}
 use lib.Seq.{take_at, drop_at}
 use borrow.Author.Tests.{lt-ltb, eqb-true, not-false}
+use Rattle.std.specs.Prelude.{Ok}
 use Rattle.refusals.specs.Tables.{Rule}
-use Rattle.refusals.specs.declared.Written.TheVariants.{Length}
 use Rattle.refusals.proofs.Tables.{Clear}
 use Rattle.refusals.proofs.Writing.{wrote-front}
 use Rattle.words.specs.Words.{words_in, bytes_of}
@@ -33,7 +33,7 @@ use Rattle.block_reader.specs.declared.Kind.TheVariants.{Static, Dynamic, FtuLis
 
 -- the first n words of the lent output, as the writer says that it wrote them
 module _ (own : List Rule) (kind : Kind) (h : Header) (b out : List ℕ) (n : ℕ) (after : List ℕ)
-    (w : WroteBlock own (body_length kind) h b out (Length n) after) where
+    (w : WroteBlock own (body_length kind) h b out (Ok n) after) where
   pub written_back : body_length kind ≤ place_above kind b → ReadsBack kind (take n after) (as_sent h) b
   written_back free =
       rw (wrote-front (block_rules own h b out) (header_words h ++ b) out n after w.wrote)
@@ -65,14 +65,14 @@ measured-within t rates four words bounded =
 -- ---- the four kinds
 
 module _ (h : Header) (out : List ℕ) (n : ℕ) (after : List ℕ) where
-  pub static-back : (block : List ℕ) → WroteStatic h block out (Length n) after → ReadsBack Static (take n after) (as_sent h) block
+  pub static-back : (block : List ℕ) → WroteStatic h block out (Ok n) after → ReadsBack Static (take n after) (as_sent h) block
   static-back block w =
       written_back (static_rules block) Static h block out n after w
       (above_within bound_of 436 block (block-clear (static_rules block) 436 h block out n after w))
 
   -- of rates within their bounds, as those of every board that is reached are
   pub dynamic_back : (t : ℕ) (temperatures rates : List ℕ) → RatesKept rates
-      → WroteDynamic h t temperatures rates out (Length n) after → DynamicBack (take n after) (as_sent h) t temperatures rates
+      → WroteDynamic h t temperatures rates out (Ok n) after → DynamicBack (take n after) (as_sent h) t temperatures rates
   dynamic_back t temperatures rates bounded w =
       let own = temperature_rules temperatures in
       let body = dynamic_body t temperatures rates in
@@ -89,12 +89,12 @@ module _ (h : Header) (out : List ℕ) (n : ℕ) (after : List ℕ) where
 
   -- whatever rows the board puts in front
   module _ (own : List Rule) where
-    pub list_back : (l : FtuList) → WroteBlock own 249 h (list_body l) out (Length n) after → ReadsBack List' (take n after) (as_sent h) (list_body l)
+    pub list_back : (l : FtuList) → WroteBlock own 249 h (list_body l) out (Ok n) after → ReadsBack List' (take n after) (as_sent h) (list_body l)
     list_back l w =
         let k = block-length own 249 h (list_body l) out n after w in
         written_back own List' h (list_body l) out n after w (omega arith)
 
-    pub failure-back : (calls : ℕ) (frame : List ℕ) → WroteBlock own 29 h (failure_body calls frame) out (Length n) after
+    pub failure-back : (calls : ℕ) (frame : List ℕ) → WroteBlock own 29 h (failure_body calls frame) out (Ok n) after
         → ReadsBack Failure (take n after) (as_sent h) (failure_body calls frame)
     failure-back calls frame w =
         let k = block-length own 29 h (failure_body calls frame) out n after w in

@@ -8,9 +8,9 @@ use native.Mathlib.Omega.{arith}
 use lib.ListN.{length, take, length-append}
 use lib.Seq.{take_at, drop_at}
 use borrow.Author.Tests.{ltb-false}
+use Rattle.std.specs.Prelude.{Ok}
 use Rattle.refusals.specs.Tables.{given}
 use Rattle.refusals.specs.Writing.{writing_rules}
-use Rattle.refusals.specs.declared.Written.TheVariants.{Length}
 use Rattle.refusals.proofs.Tables.{Clear}
 use Rattle.refusals.proofs.Writing.{wrote-front, wrote-clear}
 use Rattle.bounds.specs.Bounds.{bound_of}
@@ -99,7 +99,7 @@ module _ (b rest : List ℕ) where
     rest_back = rw used-back (drop_at (command_words c b) rest (5 + block_length c) (let e = block-long c k in omega arith))
 
 -- what the writer wrote to the lent output, as it says how much
-pub written_back : (c : Command) (b out after : List ℕ) (n : ℕ) → WroteCommand c b out (Length n) after → ReadsBack (take n after) c b
+pub written_back : (c : Command) (b out after : List ℕ) (n : ℕ) → WroteCommand c b out (Ok n) after → ReadsBack (take n after) c b
 written_back c b out after n w =
     let f = w.fits in
     let k = wrote-clear (write_rules c b) (command_words c b) out n after w.wrote in

@@ -9,10 +9,10 @@ use native.Mathlib.Omega.{arith}
 use lib.Dec.{eqb}
 use lib.ListN.{take, get_or}
 use borrow.Author.Tests.{le-leb, eq-eqb, eqb-true, eqb-false, not-false}
+use Rattle.std.specs.Prelude.{Ok}
 use Rattle.crc.specs.Crc.{crc, packet_start}
 use Rattle.refusals.specs.Tables.{given, Rule}
 use Rattle.refusals.specs.Writing.{writing_rules, Wrote}
-use Rattle.refusals.specs.declared.Written.TheVariants.{Length}
 use Rattle.refusals.proofs.Writing.{wrote-front, wrote-clear}
 use Rattle.numbers.proofs.Listed.{spread, listed}
 use Rattle.packets.specs.Packets.{bit_of, type1, type2, first_six, packet_bytes, in_range, write_rules, WrotePacket}
@@ -37,14 +37,14 @@ module _ (x : ℕ) (f : Fields) (hx : x < 2 ^ 32) (hn : f.n ≤ 40) (hs : f.puls
 
 -- The first n bytes of the lent output, as a writer of a packet with any rows says that it wrote them, read as that packet, where its number has
 -- 32 bits and its fields are in range. (A board's trigger has more rows than the writer of packets, among them 15 too.)
-pub read_by : (rules : List Rule) (x : ℕ) (f : Fields) (out : List ℕ) (n : ℕ) (after : List ℕ) → Wrote rules (packet_bytes x f) out (Length n) after
+pub read_by : (rules : List Rule) (x : ℕ) (f : Fields) (out : List ℕ) (n : ℕ) (after : List ℕ) → Wrote rules (packet_bytes x f) out (Ok n) after
     → x < 2 ^ 32 → not (in_range f) ≡ false → packet_answer (take n after) ≡ given (record { number = x; fields = f })
 read_by rules x f out n after w fits range =
     let r = within f (in_range f) refl range in
     ap packet_answer (wrote-front (writing_rules rules (packet_bytes x f) out) (packet_bytes x f) out n after w) ∙ read-bytes x f fits r.0 r.1
 
 -- and so they do, with no premise, where the writer of packets wrote them
-pub read-written : (x : ℕ) (f : Fields) (out : List ℕ) (n : ℕ) (after : List ℕ) → WrotePacket (write_rules f) x f out (Length n) after
+pub read-written : (x : ℕ) (f : Fields) (out : List ℕ) (n : ℕ) (after : List ℕ) → WrotePacket (write_rules f) x f out (Ok n) after
     → packet_answer (take n after) ≡ given (record { number = x; fields = f })
 read-written x f out n after w =
     read_by (write_rules f) x f out n after w.wrote (w.fits n refl) (wrote-clear (write_rules f) (packet_bytes x f) out n after w.wrote).0

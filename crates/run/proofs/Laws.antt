@@ -5,19 +5,18 @@ use mathlib.Core.Path.{◌≡◌, refl, sym, ap, ◌∙◌}
 use mathlib.Core.Bool.{Bool, true, false, not, cond}
 use mathlib.Core.List.{List}
 use borrow.Author.Tests.{eq-eqb, ne_eqb, eqb-false}
-use Rattle.refusals.specs.Tables.{given}
-use Rattle.refusals.specs.Writing.{written_meaning, Wrote}
+use Rattle.std.specs.Prelude.{Result, Err}
+use Rattle.refusals.specs.Tables.{given, answer_of}
+use Rattle.refusals.specs.Writing.{Wrote}
 use Rattle.refusals.specs.declared.Refusal.TheVariants.{TriggerFieldOutOfRange, NotRunning, TriggerCounterAtEnd}
-use Rattle.refusals.specs.declared.Written.{Written}
-use Rattle.refusals.specs.declared.Written.TheVariants.{Refused}
 use Rattle.refusals.proofs.Tables.{Clear}
 use Rattle.refusals.proofs.Writing.{wrote-refused, wrote-alike, wrote-clear}
 use Rattle.packets.specs.Packets.{in_range, packet_bytes, write_rules}
 use Rattle.packets.specs.declared.Fields.{Fields}
 use Rattle.run.specs.Run.{is_running, stopped, clocked, clocked_run, is_last, counted, after_trigger}
 use Rattle.run.specs.Run.{trigger_number, trigger_rules, trigger_answer, after_answer, Gives, Triggers}
-use Rattle.run.specs.declared.Running.{Running}
 use Rattle.run.specs.declared.Run.{Run}
+use Rattle.refusals.specs.declared.Refusal.{Refusal}
 
 -- ---- a clock step
 
@@ -41,34 +40,27 @@ module _ (r : Run) where
   unfolding after_trigger
   after-another h = ap (λ (b : Bool). cond b (stopped r) (counted r)) h
 
-  -- the run with one event more, whose `running` the code has read and matched
-  pub counted_is : (now : Running) → now ≡ r.running → is_last r.running (trigger_number r) ≡ false
-      → record { running = now; freshness = r.freshness; trigger_counter = trigger_number r; timestamp = r.timestamp; on_time = r.on_time }
-      ≡ after_trigger r
-  counted_is now e h =
-      (λ i. record { running = e i; freshness = r.freshness; trigger_counter = trigger_number r; timestamp = r.timestamp; on_time = r.on_time })
-      ∙ sym (after-another h)
-
 -- ---- a trigger
 
 module _ (r : Run) (f : Fields) (out : List ℕ) where
   -- its refusals, each where those before it do not apply
-  pub gives-15 : not (in_range f) ≡ true → Gives r f out (Refused TriggerFieldOutOfRange) out
+  pub gives-15 : not (in_range f) ≡ true → Gives r f out (Err TriggerFieldOutOfRange) out
   unfolding trigger_rules
   gives-15 h = wrote-refused _ _ _ TriggerFieldOutOfRange (rw h refl)
 
   module _ (a : not (in_range f) ≡ false) where
-    pub gives-16 : not (is_running r) ≡ true → Gives r f out (Refused NotRunning) out
+    pub gives-16 : not (is_running r) ≡ true → Gives r f out (Err NotRunning) out
     unfolding trigger_rules
     gives-16 h = wrote-refused _ _ _ NotRunning (rw (a, h) refl)
 
     module _ (b : not (is_running r) ≡ false) where
-      pub gives-17 : r.trigger_counter ≡ 4294967295 → Gives r f out (Refused TriggerCounterAtEnd) out
+      pub gives-17 : r.trigger_counter ≡ 4294967295 → Gives r f out (Err TriggerCounterAtEnd) out
       unfolding trigger_rules
       gives-17 h = wrote-refused _ _ _ TriggerCounterAtEnd (rw (a, b, eq-eqb _ _ h) refl)
 
       -- where none applies, the answer is that of the writer of packets
-      pub gives : (r.trigger_counter ≡ 4294967295 → ⊥) → (w : Written) (after : List ℕ) → Wrote (write_rules f) (packet_bytes (trigger_number r) f) out w after
+      pub gives : (r.trigger_counter ≡ 4294967295 → ⊥) → (w : Result ℕ Refusal) (after : List ℕ)
+          → Wrote (write_rules f) (packet_bytes (trigger_number r) f) out w after
           → Gives r f out w after
       unfolding trigger_rules
       gives h w after = wrote-alike _ _ _ _ w after (a, tt) (a, (b, (ne_eqb _ _ h, tt)))
@@ -87,6 +79,6 @@ module _ (r : Run) (f : Fields) (out : List ℕ) where
     room = eqb-false _ _ clear.1.1.0
 
   -- the run follows the answer
-  pub triggers : (w : Written) (after : List ℕ) → Gives r f out w after → (s : Run) → s ≡ after_answer r (written_meaning w)
+  pub triggers : (w : Result ℕ Refusal) (after : List ℕ) → Gives r f out w after → (s : Run) → s ≡ after_answer r (answer_of w)
       → Triggers r f out (record { run = s; answer = w }) after
   triggers w after g s e = record { packet = g; run = e ∙ ap (after_answer r) g.answer }

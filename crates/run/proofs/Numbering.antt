@@ -5,8 +5,7 @@ use Prim.Native.Nat.{ℕ}
 use mathlib.Core.Path.{◌≡◌, refl, sym, ap, ◌∙◌}
 use mathlib.Core.List.{List}
 use borrow.Author.Tests.{eq-eqb}
-use Rattle.refusals.specs.Tables.{given}
-use Rattle.refusals.specs.Writing.{written_meaning}
+use Rattle.refusals.specs.Tables.{given, answer_of}
 use Rattle.commands.specs.declared.RunLength.{RunLength}
 use Rattle.packets.specs.declared.Fields.{Fields}
 use Rattle.run.specs.Run.{started, stopped, clocked_run, trigger_number, is_last, after_trigger, after_answer, Triggers}
@@ -32,7 +31,7 @@ clock-keeps r ticks = (refl, refl, refl)
 -- ---- an accepted trigger
 
 module _ (r : Run) (f : Fields) (out : List ℕ) (t : Triggered) (after : List ℕ) (h : Triggers r f out t after)
-    (n : ℕ) (e : written_meaning t.answer ≡ given n) where
+    (n : ℕ) (e : answer_of t.answer ≡ given n) where
   -- the run follows it
   pub accepted : t.run ≡ after_trigger r
   accepted = h.run ∙ ap (after_answer r) (sym h.packet.answer ∙ e)

@@ -5,8 +5,8 @@ use mathlib.Core.Path.{◌≡◌, sym, ap, ◌∙◌}
 use mathlib.Core.List.{List}
 use lib.Dec.{T}
 use lib.ListN.{length}
-use Rattle.refusals.specs.Tables.{Answer, refused, rising}
-use Rattle.refusals.specs.Writing.{writing_rules, written_meaning, output_after}
+use Rattle.refusals.specs.Tables.{Answer, refused, rising, answer_of}
+use Rattle.refusals.specs.Writing.{writing_rules, output_after}
 use Rattle.refusals.proofs.Tables.{Exactly}
 use Rattle.refusals.proofs.Writing.{writing-exactly}
 use Rattle.packets.specs.Packets.{packet_bytes}
@@ -28,7 +28,7 @@ module _ (r : Run) (f : Fields) (out : List ℕ) where
       writing-exactly (writing_rules (trigger_rules r f) (packet_bytes (trigger_number r) f) out) (packet_bytes (trigger_number r) f) out trigger-rises
 
   -- 01, Numbers given when we say no: "A refusal returns its number, the unchanged state where the call has one"; and the lent bytes stay
-  pub nothing-lost : (t : Triggered) (after : List ℕ) → Triggers r f out t after → (n p : ℕ) → written_meaning t.answer ≡ refused n p
+  pub nothing-lost : (t : Triggered) (after : List ℕ) → Triggers r f out t after → (n p : ℕ) → answer_of t.answer ≡ refused n p
       → (t.run ≡ r) × (after ≡ out)
   nothing-lost t after h n p e =
       let q : trigger_answer r f out ≡ refused n p = sym h.packet.answer ∙ e in

@@ -1,8 +1,7 @@
 -- 01, Command words, and Trigger packets; 02, b and c: what starts, stops, writes, crate resets, clock steps and triggers make of the run.
-use Rattle.std.specs.Prelude.{ℕ, ◌+◌, ◌%◌, ◌^◌, ◌≡◌, Bool, true, false, not, cond, List, [], ◌∷◌, eqb}
+use Rattle.std.specs.Prelude.{ℕ, ◌+◌, ◌%◌, ◌^◌, ◌≡◌, Bool, true, false, not, cond, List, [], ◌∷◌, eqb, Result}
 use Rattle.refusals.specs.Tables.{Answer, given, refused, Rule, rule}
 use Rattle.refusals.specs.Writing.{writing, Wrote}
-use Rattle.refusals.specs.declared.Written.{Written}
 use Rattle.commands.specs.declared.RunLength.{RunLength}
 use Rattle.commands.specs.declared.RunLength.TheVariants.{Endless, Counted}
 use Rattle.packets.specs.Packets.{in_range, packet_bytes}
@@ -13,6 +12,7 @@ use Rattle.run.specs.declared.Freshness.{Freshness}
 use Rattle.run.specs.declared.Freshness.TheVariants.{NeverWritten, Fresh, UsedByRun, UsedByReset}
 use Rattle.run.specs.declared.Run.{Run}
 use Rattle.run.specs.declared.Triggered.{Triggered}
+use Rattle.refusals.specs.declared.Refusal.{Refusal}
 
 -- whether events are taken
 abbrev pub takes_events : Running → Bool
@@ -124,7 +124,7 @@ abbrev pub trigger_answer : Run → Fields → List ℕ → Answer ℕ
 trigger_answer r f out = writing (trigger_rules r f) (packet_bytes (trigger_number r) f) out
 
 -- a trigger with the fields f was answered w, and the lent bytes `out` became `after`
-abbrev pub Gives : Run → Fields → List ℕ → Written → List ℕ → Type 0
+abbrev pub Gives : Run → Fields → List ℕ → Result ℕ Refusal → List ℕ → Type 0
 Gives r f out w after = Wrote (trigger_rules r f) (packet_bytes (trigger_number r) f) out w after
 
 -- the trigger answered t, and the lent bytes `out` became `after`

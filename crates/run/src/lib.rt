@@ -2,13 +2,13 @@
 #![tactic(auto)]
 
 ghost use Rattle.std.specs.Prelude.{◌≡◌, ◌<◌};
-ghost use Rattle.run.specs.Run.{is_running, is_fresh, used_by, at_power_up, started, stopped, with_freshness, refreshed, after_crate_reset};
+ghost use Rattle.run.specs.Run.{is_running, is_last, is_fresh, used_by, at_power_up, started, stopped, with_freshness, refreshed, after_crate_reset};
 ghost use Rattle.run.specs.Run.{clocked, clocked_run};
 ghost use Rattle.run.specs.Run.{after_trigger, Gives, Triggers};
 
 use commands::RunLength;
 use packets::{Fields, Packet, in_range, write_packet};
-use refusals::{Refusal, Written};
+use refusals::Refusal;
 
 // Whether events are taken, and how many.
 #[derive(Clone, Copy)]
@@ -43,7 +43,7 @@ pub struct Run {
 #[derive(Clone, Copy)]
 pub struct Triggered {
     pub run: Run,
-    pub answer: Written,
+    pub answer: Result<usize, Refusal>,
 }
 
 // A counter of 48 bits, some ticks later.
@@ -53,28 +53,30 @@ fn later(counter: u64, ticks: u32) -> u64
     (counter % 281474976710656 + (ticks as u64)) % 281474976710656
 }
 
+impl Running {
+    // Whether the trigger of this number is the last of a counted run.
+    fn ends_with(self, number: u32) -> bool
+        ensures { result ≡ is_last self number }
+    {
+        match self {
+            Running::Stopped | Running::Endless => false,
+            Running::Counted(x) => number == x,
+        }
+    }
+}
+
 impl Freshness {
     pub fn is_fresh(self) -> bool
         ensures { result ≡ is_fresh self }
     {
-        match self {
-            Freshness::NeverWritten => false,
-            Freshness::Fresh => true,
-            Freshness::UsedByRun => false,
-            Freshness::UsedByReset => false,
-        }
+        matches!(self, Freshness::Fresh)
     }
 
     // After a start or a crate reset, which is `user`: only what uses up a fresh configuration is named.
     fn used_by(self, user: Freshness) -> Freshness
         ensures { result ≡ used_by user self }
     {
-        match self {
-            Freshness::NeverWritten => Freshness::NeverWritten,
-            Freshness::Fresh => user,
-            Freshness::UsedByRun => Freshness::UsedByRun,
-            Freshness::UsedByReset => Freshness::UsedByReset,
-        }
+        if self.is_fresh() { user } else { self }
     }
 }
 
@@ -95,26 +97,14 @@ impl Run {
     pub fn is_running(self) -> bool
         ensures { result ≡ is_running self }
     {
-        let running = self.running;
-        match running {
-            Running::Stopped => false,
-            Running::Endless => true,
-            Running::Counted(_) => true,
-        }
+        !matches!(self.running, Running::Stopped)
     }
 
     // The same run, with another freshness.
     fn with_freshness(self, freshness: Freshness) -> Run
         ensures { result ≡ with_freshness self freshness }
     {
-        let running = self.running;
-        Run {
-            running,
-            freshness,
-            trigger_counter: self.trigger_counter,
-            timestamp: self.timestamp,
-            on_time: self.on_time,
-        }
+        Run { freshness, ..self }
     }
 
     // A write makes the configuration fresh.
@@ -155,13 +145,12 @@ impl Run {
     pub fn stop(self) -> Run
         ensures { result ≡ stopped self }
     {
-        let freshness = self.freshness;
         Run {
             running: Running::Stopped,
-            freshness,
             trigger_counter: 0,
             timestamp: 0,
             on_time: 0,
+            ..self
         }
     }
 
@@ -169,19 +158,15 @@ impl Run {
     pub fn clock(self, ticks: u32) -> Run
         ensures { result ≡ clocked_run self ticks }
     {
-        let running = self.running;
-        let freshness = self.freshness;
         let on_time = if self.is_running() {
             later(self.on_time, ticks)
         } else {
             self.on_time
         };
         Run {
-            running,
-            freshness,
-            trigger_counter: self.trigger_counter,
             timestamp: later(self.timestamp, ticks),
             on_time,
+            ..self
         }
     }
 
@@ -190,38 +175,28 @@ impl Run {
         requires { self.trigger_counter < 4294967295 }
         ensures { result ≡ after_trigger self }
     {
-        let running = self.running;
-        let freshness = self.freshness;
         let number = self.trigger_counter + 1;
-        let last = match running {
-            Running::Stopped => false,
-            Running::Endless => false,
-            Running::Counted(x) => number == x,
-        };
-        if last {
+        if self.running.ends_with(number) {
             return self.stop();
         }
         Run {
-            running,
-            freshness,
             trigger_counter: number,
-            timestamp: self.timestamp,
-            on_time: self.on_time,
+            ..self
         }
     }
 
     // The packet of a trigger, into the lent bytes, or why there is none.
-    fn give(self, fields: Fields, out: &mut [u8]) -> Written
+    fn give(self, fields: Fields, out: &mut [u8]) -> Result<usize, Refusal>
         ensures { Gives self fields out.old result out.new }
     {
         if !in_range(fields) {
-            return Written::Refused(Refusal::TriggerFieldOutOfRange);
+            return Err(Refusal::TriggerFieldOutOfRange);
         }
         if !self.is_running() {
-            return Written::Refused(Refusal::NotRunning);
+            return Err(Refusal::NotRunning);
         }
         if self.trigger_counter == 4294967295 {
-            return Written::Refused(Refusal::TriggerCounterAtEnd);
+            return Err(Refusal::TriggerCounterAtEnd);
         }
         let number = self.trigger_counter + 1;
         write_packet(Packet { number, fields }, out)
@@ -234,8 +209,8 @@ impl Run {
     {
         let answer = self.give(fields, out);
         let run = match answer {
-            Written::Length(_) => self.count(),
-            Written::Refused(_) => self,
+            Ok(_) => self.count(),
+            Err(_) => self,
         };
         Triggered { run, answer }
     }

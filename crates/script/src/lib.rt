@@ -2,8 +2,10 @@
 #![tactic(auto)]
 
 ghost use Rattle.std.specs.Prelude.{◌≡◌};
-ghost use Rattle.script.specs.Script.{value_of};
-ghost use Rattle.script.specs.ByCharacter.{line_begun, in_form, order_on, order_bytes_on, read_on, bytes_on};
+ghost use Rattle.script.specs.ByCharacter.{line_begun, order_on, order_bytes_on, read_on, bytes_on};
+
+// The most digits of an order: two make a byte.
+const MOST_DIGITS: usize = 4096;
 
 // What a line is as far as it is read.
 #[derive(Clone, Copy)]
@@ -15,7 +17,7 @@ pub enum Form {
     Malformed,
 }
 
-// What is read of a line; the bytes that its digits make stand in an array beside it.
+// What is read of a line; the bytes that its digits make stand in an array beside it, which the caller lends and no call copies.
 #[derive(Clone, Copy)]
 pub struct Reading {
     pub form: Form,
@@ -38,77 +40,55 @@ pub fn line_begun() -> Reading
     }
 }
 
-// The value of a hexadecimal digit of either case; 16 for any other character.
-fn value_of(character: u8) -> u8
-    ensures { result ≡ value_of character }
-{
-    match character {
-        48..=57 => character - 48,
-        65..=70 => character - 55,
-        97..=102 => character - 87,
-        _ => 16,
-    }
-}
-
-// The same line in another form.
-fn in_form(reading: Reading, form: Form) -> Reading
-    ensures { result ≡ in_form form reading }
-{
-    Reading {
-        form,
-        letter: reading.letter,
-        digits: reading.digits,
-        high: reading.high,
-    }
-}
-
 // A character of an order after its letter.
+#[tactic(auto, using(crate::proofs::Characters::value_is), unfolding(crate::specs::ByCharacter::order_on, crate::specs::ByCharacter::order_bytes_on))]
 fn order_on(reading: Reading, character: u8, bytes: &mut [u8; 2048]) -> Reading
     ensures value { result ≡ order_on reading character }
     ensures bytes_after { bytes.new ≡ order_bytes_on reading character bytes.old }
 {
-    let digits = reading.digits;
-    let high = reading.high;
-    if character == 32 {
+    if character == b' ' {
         return reading;
     }
-    let value = value_of(character);
-    if 15 < value {
-        return in_form(reading, Form::Malformed);
+    let malformed = Reading {
+        form: Form::Malformed,
+        ..reading
+    };
+    let Some(digit) = char::from(character).to_digit(16) else {
+        return malformed;
+    };
+    if reading.digits >= MOST_DIGITS {
+        return malformed;
     }
-    if 4095 < digits {
-        return in_form(reading, Form::Malformed);
-    }
-    if digits % 2 == 1 {
-        bytes[digits / 2] = high % 16 * 16 + value;
+    let value = digit as u8;
+    if reading.digits % 2 == 1 {
+        bytes[reading.digits / 2] = reading.high % 16 * 16 + value;
     }
     Reading {
         form: Form::Order,
-        letter: reading.letter,
-        digits: digits + 1,
+        digits: reading.digits + 1,
         high: value,
+        ..reading
     }
 }
 
 // The next character of a line, which is no line feed.
+#[tactic(auto, unfolding(crate::specs::ByCharacter::read_on, crate::specs::ByCharacter::bytes_on))]
 pub fn read_on(reading: Reading, character: u8, bytes: &mut [u8; 2048]) -> Reading
     ensures value { result ≡ read_on reading character }
     ensures bytes_after { bytes.new ≡ bytes_on reading character bytes.old }
 {
-    let form = reading.form;
-    match form {
-        Form::Empty => if character == 35 {
-            in_form(reading, Form::Comment)
-        } else {
-            Reading {
-                form: Form::Order,
-                letter: character,
-                digits: 0,
-                high: 0,
-            }
+    match reading.form {
+        Form::Empty if character == b'#' => Reading {
+            form: Form::Comment,
+            ..reading
         },
-        Form::Comment => reading,
+        Form::Empty => Reading {
+            form: Form::Order,
+            letter: character,
+            digits: 0,
+            high: 0,
+        },
         Form::Order => order_on(reading, character, bytes),
-        Form::Malformed => reading,
+        Form::Comment | Form::Malformed => reading,
     }
 }

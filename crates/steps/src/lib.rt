@@ -7,7 +7,7 @@ ghost use Rattle.steps.specs.Steps.{code_numbered, step_frame, judged_reply, no_
 
 use configuration::{board_words, settings_of};
 use frames::{Code, frame, frame_before_crc};
-use refusals::{Refusal, Written};
+use refusals::Refusal;
 use replies::{carried, is_good, rates_in};
 
 // What follows a frame: a reply, or none in time.
@@ -17,7 +17,8 @@ pub enum Event {
     TimeUp,
 }
 
-// What a reply or a time-up says as the answer to a frame: whether it is good, and what a reply to a ping and one with rates carry.
+// What a reply or a time-up says as the answer to a frame: whether it is good, and what a reply to a ping and one with rates carry. (No Option:
+// `judged_reply` of the specs has what a bad reply carries too.)
 #[derive(Clone, Copy)]
 pub struct Judged {
     pub good: bool,
@@ -27,7 +28,7 @@ pub struct Judged {
     pub rates: [u16; 12],
 }
 
-// The code of a number.
+// The code of a number; any other than 1 to 4 is that of rates, as `code_numbered` of the specs has it.
 fn code_numbered(number: u8) -> Code
     ensures { result ≡ code_numbered number }
 {
@@ -53,18 +54,14 @@ pub fn step_frame(block: &[u16], c: u8, b: u8, code: u8) -> [u8; 28]
 }
 
 // Writes a frame to the front of lent bytes.
-pub fn write_frame(f: [u8; 28], out: &mut [u8]) -> Written
+pub fn write_frame(f: [u8; 28], out: &mut [u8]) -> Result<usize, Refusal>
     ensures { Wrote [] f out.old result out.new }
 {
     if out.len() < 28 {
-        return Written::Refused(Refusal::OutputTooShort);
+        return Err(Refusal::OutputTooShort);
     }
-    let mut i = 0;
-    while i < 28 {
-        out[i] = f[i];
-        i += 1;
-    }
-    Written::Length(28)
+    out[..28].copy_from_slice(&f);
+    Ok(28)
 }
 
 // What a reply of any length says as the answer to the frame sent. (A part lent on, even the whole, is not copied on the way; a slice handed

@@ -11,17 +11,18 @@ use lib.Dec.{T, ltb}
 use lib.ListN.{length, take, drop, set, get_or, replicate, length-drop, length-replicate}
 use lib.Seq.{drop-cons, drop-drop, take_all, take_at, drop-nil}
 use borrow.Author.Tests.{ltb-false, lt-ltb, le-ltb}
-use Rattle.refusals.specs.Tables.{Answer, given, refused, Rule, answer_number}
+use Rattle.std.specs.Prelude.{Result}
+use Rattle.refusals.specs.Tables.{Answer, given, refused, Rule, answer_number, answer_of}
 use Rattle.refusals.specs.Writing.{writing_by, writing_rules, writing, output_after, Wrote}
-use Rattle.refusals.specs.declared.Written.{Written}
 use Rattle.refusals.proofs.Tables.{Applies, refused-applies, refused-more}
 use Rattle.words.specs.Words.{words_in}
 use Rattle.words.proofs.Laws.{copy_more}
 use Rattle.words.proofs.Bytes.{length-words}
 use Rattle.commands.specs.declared.Command.{Command}
-use Rattle.command_reader.specs.Reading.{Taken, read_rules, command_in, command_answer, used_of}
+use Rattle.command_reader.specs.declared.Taken.{Taken}
+use Rattle.command_reader.specs.Reading.{read_rules, command_in, command_answer, used_of}
 use Rattle.command_reader.proofs.Used.{used-five, used-fits}
-use Rattle.acceptance.specs.Acceptance.{state_rules, answer_meaning, decided}
+use Rattle.acceptance.specs.Acceptance.{state_rules, decided}
 use Rattle.acceptance.specs.declared.Status.{Status}
 use Rattle.board.specs.State.{status_of, fresh_board, power_up_answer, board_for}
 use Rattle.board.specs.Commands.{board_after, Obeys}
@@ -29,6 +30,7 @@ use Rattle.board.specs.declared.Board.{Board}
 use Rattle.board.specs.declared.CommandResult.{CommandResult}
 use Rattle.stream.specs.Stream.{ran_out, stops, number_for, bytes_after, answers_to, answers_on, listing_from, listed}
 use Rattle.stream.specs.declared.Listing.{Listing}
+use Rattle.refusals.specs.declared.Refusal.{Refusal}
 
 -- ---- a command that does not stop the listing has at least five words
 
@@ -201,7 +203,7 @@ pub record Turn (bytes : List ℕ) (count : ℕ) (β : Board) (answers rest : Li
   pub before : Answered bytes count β answers rest
   pub more : 0 < length rest + length bytes % 2
   pub obeys : Obeys β rest d
-  pub number : n ≡ answer_number (answer_meaning d.answer)
+  pub number : n ≡ answer_number (answer_of d.answer)
 
 module _ (bytes : List ℕ) (count : ℕ) (β : Board) (answers rest : List ℕ) (d : CommandResult) (n : ℕ) (t : Turn bytes count β answers rest d n) where
   at : ℕ
@@ -306,7 +308,7 @@ module _ (bytes : List ℕ) (count : ℕ) (β : Board) (answers rest : List ℕ)
 -- ---- the listing of bytes
 
 -- 32,768 words have room for those of 65,536 bytes
-pub words-written : (bytes out after : List ℕ) (r : Written) → length bytes ≤ 65536 → length out ≡ 32768 → Wrote [] (words_in bytes) out r after
+pub words-written : (bytes out after : List ℕ) (r : Result ℕ Refusal) → length bytes ≤ 65536 → length out ≡ 32768 → Wrote [] (words_in bytes) out r after
     → take (length bytes / 2) after ≡ words_in bytes
 unfolding writing_by writing_rules
 words-written bytes out after r short size w =

@@ -2,14 +2,12 @@
 #![tactic(auto)]
 
 ghost use Rattle.std.specs.Prelude.{◌≡◌, ◌≤◌, length, replicate};
-ghost use Rattle.refusals.specs.Tables.{answer_number};
 ghost use Rattle.words.specs.Words.{words_in};
-ghost use Rattle.acceptance.specs.Acceptance.{answer_meaning};
 ghost use Rattle.stream.specs.Stream.{time_ups, ran_out, stops, listing_from, answers_on, listed, input_bytes};
 
-use acceptance::CommandAnswer;
 use board::{Board, power_up};
 use command_reader::rest_after;
+use refusals::number_given;
 use steps::Event;
 use words::words_from_bytes;
 
@@ -19,7 +17,8 @@ pub struct Listing {
     // The ordinal of the first.
     pub first: usize,
     pub count: usize,
-    // As many as there are, then zeros: 65,536 bytes have at most 6,553 commands, and what is left of them gets one answer.
+    // As many as there are, then zeros: 65,536 bytes have at most 6,553 commands, and what is left of them gets one answer. (Memory is fixed, and
+    // the numbers are those that the listing prints.)
     pub answers: [u8; 6554],
 }
 
@@ -28,12 +27,10 @@ fn run_out_on(board: Board, c: u8) -> Board
     ensures { result ≡ time_ups 30 c board }
 {
     let mut b = board;
-    let mut i = 0u8;
-    while i < 30 {
+    for _i in 0..30u8 {
         let mut frame = [0u8; 28];
         let r = b.hand_in(c, Event::TimeUp, &[0u8; 28], &mut frame);
         b = r.board;
-        i += 1;
     }
     b
 }
@@ -46,16 +43,6 @@ pub fn run_out(board: Board) -> Board
     let b = run_out_on(a, 1);
     let c = run_out_on(b, 2);
     run_out_on(c, 3)
-}
-
-// The number of an answer, 0 for accepted.
-fn number_given(answer: CommandAnswer) -> u8
-    ensures { result ≡ answer_number (answer_meaning answer) }
-{
-    match answer {
-        CommandAnswer::Obeyed(_) => 0,
-        CommandAnswer::Refused(r) => r.number(),
-    }
 }
 
 // Whether the listing stops after an answer.
@@ -83,7 +70,7 @@ fn answers_on(bytes: &[u8], words: &[u16]) -> Listing
     while 0 < rest.len() + odd {
         let done = board.obey(rest);
         let answer = done.answer;
-        let number = number_given(answer);
+        let number = number_given(&answer);
         answers[count] = number;
         count += 1;
         if is_last(number) {
@@ -118,7 +105,7 @@ pub fn list_answers(bytes: &[u8]) -> Listing
         };
     }
     let mut words = [0u16; 32768];
-    words_from_bytes(bytes, &mut words);
+    let _ = words_from_bytes(bytes, &mut words);
     let count = bytes.len() / 2;
     answers_on(bytes, &words[..count])
 }

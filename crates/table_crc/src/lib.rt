@@ -1,6 +1,5 @@
-// The CRC-8 of trigger packets and slow-control frames, four bits at a step with a table of sixteen. This is the form of the controller: the bench
-// unit's soft core has no room for 256 entries, and eight turns a byte are too many for it (02, e). The far end's packet reader, on a computer, has
-// the same CRC by a quicker form, `quick_crc`.
+// The CRC-8 of slow-control frames and of their replies, four bits at a step with a table of sixteen: the bench unit's soft core has no room for 256
+// entries, and eight turns a byte are too many for it (02, e). Packets are written with `crc`, and the packet reader uses `quick_crc`.
 #![tactic(auto)]
 
 ghost use Rattle.std.specs.Prelude.{◌≡◌};
@@ -34,10 +33,8 @@ pub fn crc8(start: u8, bytes: &[u8]) -> u8
 {
     let table = TABLE;
     let mut register = start;
-    let mut i = 0;
-    while i < bytes.len() {
-        register = after_byte(&table, register, bytes[i]);
-        i += 1;
+    for byte in bytes {
+        register = after_byte(&table, register, *byte);
     }
     register
 }

@@ -6,16 +6,17 @@ use mathlib.Core.List.{List, [], ◌∷◌, ◌++◌, append-nil}
 use native.Mathlib.Omega.{arith}
 use lib.ListN.{length, take, drop, get_or, drop_of_length-le}
 use lib.Seq.{take_at}
+use Rattle.std.specs.Prelude.{Result}
 use Rattle.refusals.specs.Tables.{Answer}
 use Rattle.refusals.specs.Writing.{output_after, Wrote}
-use Rattle.refusals.specs.declared.Written.{Written}
 use Rattle.refusals.proofs.Writing.{room-writing}
 use Rattle.numbers.specs.Numbers.{number}
 use Rattle.numbers.proofs.Listed.{listed}
 use Rattle.words.specs.Words.{words_in}
 use Rattle.words.proofs.Bytes.{length-words}
+use Rattle.refusals.specs.declared.Refusal.{Refusal}
 
-module _ (b out after : List ℕ) (w : Written) (h : Wrote [] (words_in b) out w after) where
+module _ (b out after : List ℕ) (w : Result ℕ Refusal) (h : Wrote [] (words_in b) out w after) where
   words-put : length b / 2 ≤ length out → after ≡ words_in b ++ drop (length (words_in b)) out
   words-put room =
       let n = length-words b in

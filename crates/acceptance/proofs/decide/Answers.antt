@@ -1,12 +1,12 @@
 -- `acceptance::decide` meets its contract. Assumes nothing.
 use Rattle.acceptance.proofs.Deciding.{decides-state, decides-refused}
-use Rattle.command_reader.specs.Reading.{read_meaning}
 use mathlib.Core.Path.{sym, ap, ◌∙◌}
 use Rattle.acceptance.proofs.decide.Goals as goal
+use Rattle.refusals.specs.Tables.{answer_of}
 
-pub returns-in-Accepted : goal.returns-in-Accepted
-returns-in-Accepted c =
-    decides-state _ _ _ _ (sym c.read_command.ensures ∙ ap read_meaning c.in-Accepted.is) _ c.accept.ensures
+pub returns-in-Ok : goal.returns-in-Ok
+returns-in-Ok c =
+    decides-state _ _ _ _ (sym c.read_command.ensures ∙ ap answer_of c.in-Ok.is) _ c.accept.ensures
 
-pub returns-in-Refused : goal.returns-in-Refused
-returns-in-Refused c = decides-refused _ _ _ (sym (ap read_meaning c.in-Refused.is) ∙ c.read_command.ensures)
+pub returns-in-Err : goal.returns-in-Err
+returns-in-Err c = decides-refused _ _ _ (sym (ap answer_of c.in-Err.is) ∙ c.read_command.ensures)

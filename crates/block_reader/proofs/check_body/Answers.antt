@@ -6,7 +6,7 @@ use lib.ListN.{length, take, drop}
 use Rattle.words.proofs.Laws.{part-rest}
 use Rattle.bounds.specs.Bounds.{measurement_bound, checked_meaning, bounds_answer}
 use Rattle.block_reader.specs.Reading.{body_length}
-use Rattle.bounds.specs.declared.BoundsChecked.{BoundsChecked}
+use Rattle.bounds.proofs.Checked.{Checked}
 use Rattle.block_reader.specs.declared.Kind.{Kind}
 use Rattle.block_reader.specs.declared.Kind.TheVariants.{Dynamic}
 use Rattle.block_reader.proofs.Laws.{static-body, dynamic-above, dynamic-within}
@@ -18,7 +18,7 @@ long : (kind : Kind) (body : List ℕ) → length body ≡ body_length kind → 
 long kind body l e = l ∙ ap body_length e
 
 -- and its measurements are checked
-measured : (body : List ℕ) (r : BoundsChecked) → checked_meaning r ≡ bounds_answer measurement_bound (take (length body - 3) (drop 3 body))
+measured : (body : List ℕ) (r : Checked) → checked_meaning r ≡ bounds_answer measurement_bound (take (length body - 3) (drop 3 body))
     → checked_meaning r ≡ bounds_answer measurement_bound (drop 3 body)
 measured body r e = e ∙ ap (bounds_answer measurement_bound) (part-rest body 3)
 
@@ -27,7 +27,7 @@ pub overflow_add-result : goal.overflow_add-result
 overflow_add-result c =
     let body = c.args.body.now in
     let r = c.check_bounds-in-Dynamic in
-    let above = dynamic-above body (long _ body c.requires c.in-Dynamic.is) r.result (measured body r.result r.ensures) _ c.in-Above.is in
+    let above = dynamic-above body (long _ body c.requires c.in-Dynamic.is) r.result (measured body r.result r.ensures) _ c.in-Err.is in
     omega (arith, above.0)
 
 pub returns-in-Static : goal.returns-in-Static
@@ -35,14 +35,14 @@ returns-in-Static c =
     let is = c.in-Static.is in
     rw is (c.check_bounds.ensures ∙ static-body _ (c.requires ∙ ap body_length is))
 
-pub returns-in-Within : goal.returns-in-Within
-returns-in-Within c =
+pub returns-in-Ok : goal.returns-in-Ok
+returns-in-Ok c =
     let body = c.args.body.now in
     let r = c.check_bounds-in-Dynamic in
-    rw c.in-Dynamic.is (dynamic-within body (long _ body c.requires c.in-Dynamic.is) r.result (measured body r.result r.ensures) c.in-Within.is)
+    rw c.in-Dynamic.is (dynamic-within body (long _ body c.requires c.in-Dynamic.is) r.result (measured body r.result r.ensures) c.in-Ok.is)
 
-pub returns-in-Above : goal.returns-in-Above
-returns-in-Above c =
+pub returns-in-Err : goal.returns-in-Err
+returns-in-Err c =
     let body = c.args.body.now in
     let r = c.check_bounds-in-Dynamic in
-    rw c.in-Dynamic.is (dynamic-above body (long _ body c.requires c.in-Dynamic.is) r.result (measured body r.result r.ensures) _ c.in-Above.is).1
+    rw c.in-Dynamic.is (dynamic-above body (long _ body c.requires c.in-Dynamic.is) r.result (measured body r.result r.ensures) _ c.in-Err.is).1

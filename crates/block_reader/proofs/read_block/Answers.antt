@@ -11,8 +11,10 @@ use Rattle.words.proofs.Laws.{part-rest}
 use Rattle.block_reader.specs.Reading.{body_length, body_above}
 use Rattle.block_reader.specs.declared.Kind.{Kind}
 use Rattle.block_reader.proofs.Laws.{read-6, read-8, read-20-board, read-20-spare, read-header}
-use Rattle.bounds.specs.declared.BoundsChecked.{BoundsChecked}
-use Rattle.bounds.specs.declared.BoundsChecked.TheVariants.{Within}
+use Rattle.bounds.proofs.Checked.{Checked}
+use Rattle.std.specs.Prelude.{Ok, Err}
+use Rattle.refusals.specs.declared.Refusal.TheVariants.{AboveBound}
+use borrow.Author.Rules.{rules}
 use Rattle.block_reader.proofs.read_block.Goals as goal
 
 module _ (kind : Kind) (words : List ℕ) where
@@ -21,40 +23,42 @@ module _ (kind : Kind) (words : List ℕ) where
   sized n h e = h ∙ ap (λ (n : ℕ). 11 + n) e
 
   -- and its body, the words after the header, is checked
-  checked : (r : BoundsChecked) → checked_meaning r ≡ lowest (body_above kind (take (length words - 11) (drop 11 words)) ∷ []) tt
+  checked : (r : Checked) → checked_meaning r ≡ lowest (body_above kind (take (length words - 11) (drop 11 words)) ∷ []) tt
       → checked_meaning r ≡ lowest (body_above kind (drop 11 words) ∷ []) tt
   checked r e = e ∙ ap (λ (b : List ℕ). lowest (body_above kind b ∷ []) tt) (part-rest words 11)
 
   -- with no word above its bound
-  free : (r : BoundsChecked) → checked_meaning r ≡ lowest (body_above kind (take (length words - 11) (drop 11 words)) ∷ []) tt
-      → r ≡ Within → (body_above kind (drop 11 words)).applies ≡ false
+  free : (r : Checked) → checked_meaning r ≡ lowest (body_above kind (take (length words - 11) (drop 11 words)) ∷ []) tt
+      → r ≡ Ok tt → (body_above kind (drop 11 words)).applies ≡ false
   free r e h = row_within _ _ (checked r e) h
 
 pub returns-then-words-length : goal.returns-then-words-length
 returns-then-words-length c = read-6 c.args.kind _ (λ e. c.if-words-length.true (e ∙ ap (λ (n : ℕ). 11 + n) (sym c.body_length-length.ensures)))
 
-pub returns-in-Above : goal.returns-in-Above
-returns-in-Above c =
+pub returns-in_err-check_body : goal.returns-in_err-check_body
+returns-in_err-check_body c =
     let a = c.args in
-    read-8 a.kind a.words.now (sized a.kind a.words.now _ c.if-words-length.false c.body_length-length.ensures) c.check_body.result
-    (checked a.kind a.words.now c.check_body.result c.check_body.ensures) _ c.in-Above.is
+    let same : c.from_residual.result ≡ Err (AboveBound c.in_err-check_body.field-0.0.place) = search rules in
+    rw same
+    (read-8 a.kind a.words.now (sized a.kind a.words.now _ c.if-words-length.false c.body_length-length.ensures) c.check_body.result
+    (checked a.kind a.words.now c.check_body.result c.check_body.ensures) _ c.in_err-check_body.was)
 
 pub returns-then-header-ge-ID_LIMIT : goal.returns-then-header-ge-ID_LIMIT
 returns-then-header-ge-ID_LIMIT c =
     let a = c.args in
     read-20-board a.kind a.words.now (sized a.kind a.words.now _ c.if-words-length.false c.body_length-length.ensures)
-    (free a.kind a.words.now c.check_body.result c.check_body.ensures c.in-Within.is) _ c.header_in-header.ensures c.if-header-ge-ID_LIMIT.true
+    (free a.kind a.words.now c.check_body.result c.check_body.ensures c.in_ok-check_body.was) _ c.header_in-header.ensures c.if-header-ge-ID_LIMIT.true
 
 pub returns-then-words-ne0 : goal.returns-then-words-ne0
 returns-then-words-ne0 c =
     let a = c.args in
     read-20-spare a.kind a.words.now (sized a.kind a.words.now _ c.if-words-length.false c.body_length-length.ensures)
-    (free a.kind a.words.now c.check_body.result c.check_body.ensures c.in-Within.is) _ c.header_in-header.ensures
+    (free a.kind a.words.now c.check_body.result c.check_body.ensures c.in_ok-check_body.was) _ c.header_in-header.ensures
     c.if-header-ge-ID_LIMIT.false c.if-words-ne0.true
 
 pub returns : goal.returns
 returns c =
     let a = c.args in
     read-header a.kind a.words.now (sized a.kind a.words.now _ c.if-words-length.false c.body_length-length.ensures)
-    (free a.kind a.words.now c.check_body.result c.check_body.ensures c.in-Within.is) _ c.header_in-header.ensures
+    (free a.kind a.words.now c.check_body.result c.check_body.ensures c.in_ok-check_body.was) _ c.header_in-header.ensures
     c.if-header-ge-ID_LIMIT.false c.if-words-ne0.false

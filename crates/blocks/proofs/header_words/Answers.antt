@@ -4,4 +4,4 @@ use Rattle.blocks.proofs.header_words.Goals as goal
 
 pub returns : goal.returns
 unfolding header_words
-returns c = rw (c.words64-id.ensures, c.words32-counter.ensures, c.words48-time.ensures)
+returns c = rw (c.words-id.ensures, c.words-counter.ensures, c.words-time.ensures)

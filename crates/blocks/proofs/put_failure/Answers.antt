@@ -18,8 +18,7 @@ loop-i-preserved c =
     let s = a.calls ∷ a.frame in
     let m : length d ≡ length a.body.now = simp length-set in
     let step : set l.body (suc l.i) (get_or s (suc l.i) 0) ≡ take (suc (suc l.i)) s ++ drop (suc (suc l.i)) d =
-    ap (λ (x : List ℕ). set x (suc l.i) (get_or s (suc l.i) 0)) l.invariant.1 ∙ copy_more s d (suc l.i) (omega arith) (omega arith) in (
-      search rules,
+    ap (λ (x : List ℕ). set x (suc l.i) (get_or s (suc l.i) 0)) l.invariant.0 ∙ copy_more s d (suc l.i) (omega arith) (omega arith) in (
       subst (λ (n : ℕ). set l.body n (get_or a.frame l.i 0) ≡ take (suc n) s ++ drop (suc n) d) (sym (add-one l.i)) step,
-      simp length-set (l.invariant.2 ∙ m),
+      simp length-set (l.invariant.1 ∙ m),
     )

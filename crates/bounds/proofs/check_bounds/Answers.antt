@@ -1,11 +1,10 @@
 -- `bounds::check_bounds` meets its contract. Assumes nothing.
-use borrow.Author.Rules.{rules}
-use native.Mathlib.Omega.{arith}
-use Rattle.bounds.proofs.Checked.{answer-above, answer-within}
+use mathlib.Core.Path.{◌≡◌, sym, ◌∙◌}
+use Rattle.bounds.proofs.Checked.{answer-found}
 use Rattle.bounds.proofs.check_bounds.Goals as goal
 
-pub returns-then-words-place : goal.returns-then-words-place
-returns-then-words-place c = answer-within _ _ _ c.lowest_in-place.ensures (omega arith)
+pub returns-in-Some : goal.returns-in-Some
+returns-in-Some c = answer-found _ _ _ (sym c.in-Some.is ∙ c.lowest_in.ensures)
 
-pub returns : goal.returns
-returns c = answer-above _ _ _ (omega arith) (omega arith)
+pub returns-in-None : goal.returns-in-None
+returns-in-None c = answer-found _ _ _ (sym c.in-None.is ∙ c.lowest_in.ensures)

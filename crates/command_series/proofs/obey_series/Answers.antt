@@ -11,8 +11,8 @@ loop-i-preserved c =
     let turn =
     one-obeyed _ _ _ _ _ _ _ c.loop-i.invariant.2 c.obey-done.result c.obey-done.ensures _
     c.rest_after-after.ensures.contents _ _ _ c.loop-i-test.true
-    c.accepted_count-accepted.ensures.0 c.command_refusal.ensures c.first_of-refusal.ensures in
-    (omega arith, omega (arith, c.accepted_count-accepted.ensures.1), turn)
+    c.count_given-accepted.ensures.0 c.number_given.ensures c.first_of-refusal.ensures in
+    (omega arith, omega (arith, c.count_given-accepted.ensures.1), turn)
 
 pub returns : goal.returns
 returns c = all-obeyed _ _ _ _ _ _ _ c.loop-i.invariant.2 (omega arith)

@@ -4,7 +4,4 @@ use Rattle.command_series.proofs.Commands.{ObeyedSoFar}
 use Rattle.command_series.proofs.obey_series.Given as goal
 
 abbrev pub invariant-loop-i : goal.invariant-loop-i
-invariant-loop-i l = (l.i ≤ l.count) × (l.accepted ≤ l.i) × ObeyedSoFar l.words l.count l.i l.rest l.board l.accepted l.refusal
-
-abbrev pub decreases-loop-i : goal.decreases-loop-i
-decreases-loop-i l = l.count - l.i
+invariant-loop-i l = (l._i ≤ l.count) × (l.accepted ≤ l._i) × ObeyedSoFar l.words l.count l._i l.rest l.board l.accepted l.refusal

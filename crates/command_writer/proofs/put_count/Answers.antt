@@ -23,7 +23,7 @@ returns c =
     record {
       wrote =
           wrote-copied _ (ne_eqb _ _ c.if-x-eq0.false, tt) _ _ _ _ 7 refl (omega arith)
-          (ap (λ (l : List ℕ). five_words 0x04 2 ++ (get_or l 0 0 ∷ get_or l 1 0 ∷ [])) c.words32-count.ensures)
+          (ap (λ (l : List ℕ). five_words 0x04 2 ++ (get_or l 0 0 ∷ get_or l 1 0 ∷ [])) c.words-count.ensures)
           c.copy_words.ensures;
       fits = search rules;
     }

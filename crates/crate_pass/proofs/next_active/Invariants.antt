@@ -7,6 +7,3 @@ use Rattle.crate_pass.proofs.next_active.Given as goal
 
 abbrev pub invariant-loop-b : goal.invariant-loop-b
 invariant-loop-b l = next_board Reprogramming l.word l.b ≡ next_board Reprogramming l.word l.from
-
-abbrev pub decreases-loop-b : goal.decreases-loop-b
-decreases-loop-b l = 10 - l.b

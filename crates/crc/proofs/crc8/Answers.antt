@@ -1,16 +1,21 @@
--- `crc::crc8` meets its contract. The word stands for the bytes before i, from the start. Assumes nothing.
+-- `crc::crc8` meets its contract. The word stands for the bytes before those that are left, from the start. Assumes nothing.
+use Rattle.crc.proofs.Steps.{joined, full, first_on, four-on}
+use Prim.Native.Nat.{◌/◌}
 use mathlib.Core.Path.{◌∙◌}
-use Rattle.crc.proofs.Steps.{first_on, four-on}
+use lib.ListN.{length}
 use native.Mathlib.Omega.{arith}
 use Rattle.crc.proofs.crc8.Goals as goal
 
-pub loop-i-init : goal.loop-i-init
-loop-i-init c =
-    let a = c.args in
-    (omega arith, first_on a.start _ a.bytes.now (omega arith) c.word_of-word.ensures)
+pub loop-four-init : goal.loop-four-init
+loop-four-init c =
+    let s = c.in-Some.others.now in
+    let chunks = c.as_chunks.ensures in
+    rw (chunks.front, chunks.back, joined, c.in-Some.ensures.cases.0) (first_on c.args.start _ _ s c.word_of-word.ensures)
 
-pub loop-i-preserved : goal.loop-i-preserved
-loop-i-preserved c =
-    let l = c.loop-i in
-    let s = c.args.bytes.now in
-    (omega arith, four-on s l.i l.word _ _ (omega arith) c.four_bytes_on.ensures c.word_of.ensures ∙ l.invariant.1)
+pub loop-four-preserved : goal.loop-four-preserved
+loop-four-preserved c =
+    let l = c.loop-four in
+    let chunks = c.as_chunks.ensures in
+    let s = c.in-Some.others.now in
+    let full-four = full 4 (length s / 4) s l.four-index (omega arith) (omega arith) in
+    four-on _ l.four-index _ l.word _ _ (omega arith) (rw chunks.front full-four) c.four_bytes_on.ensures c.word_of.ensures ∙ l.invariant

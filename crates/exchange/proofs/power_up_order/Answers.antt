@@ -4,18 +4,18 @@ use Rattle.exchange.proofs.Changing.{powered-up, power-up-refused}
 use borrow.Author.Rules.{rules}
 use Rattle.exchange.proofs.power_up_order.Goals as goal
 
-pub returns-in-Up : goal.returns-in-Up
-returns-in-Up c =
+pub returns-in-Ok : goal.returns-in-Ok
+returns-in-Ok c =
     let a = c.args in
     powered-up a.board a.bytes.now _ c.if-bytes-ne10.false
     (words-whole a.bytes.now _ _ _ c.words_from_bytes.ensures (search rules))
     c.number64.result c.number64.ensures c.power_up-up.result c.power_up-up.ensures
-    c.in-Up.is
+    c.in-Ok.is
 
-pub returns-in-Refused : goal.returns-in-Refused
-returns-in-Refused c =
+pub returns-in-Err : goal.returns-in-Err
+returns-in-Err c =
     let a = c.args in
     power-up-refused a.board a.bytes.now _ c.if-bytes-ne10.false
     (words-whole a.bytes.now _ _ _ c.words_from_bytes.ensures (search rules))
     c.number64.result c.number64.ensures c.power_up-up.result c.power_up-up.ensures
-    _ c.refusal_response-response.result c.in-Refused.is c.refusal_response-response.ensures
+    _ c.refusal_response-response.result c.in-Err.is c.refusal_response-response.ensures

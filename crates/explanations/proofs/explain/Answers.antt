@@ -1,17 +1,17 @@
 -- `explanations::explain` meets its contract. Assumes nothing.
 use mathlib.Core.Path.{refl}
-use Rattle.acceptance.specs.declared.CommandAnswer.TheVariants.{Obeyed, Refused}
+use Rattle.std.specs.Prelude.{Ok, Err}
 use Rattle.explanations.proofs.Saying.{says-unlisted, by_answer}
 use Rattle.explanations.proofs.explain.Goals as goal
 
-pub returns-in-Obeyed : goal.returns-in-Obeyed
-returns-in-Obeyed c =
+pub returns-in-Ok : goal.returns-in-Ok
+returns-in-Ok c =
     let a = c.args in
-    by_answer a.words.now a.p _ (Obeyed _) _ c.status_in.ensures c.decide-decision.ensures.answer
-    c.in-Obeyed.is _ (says-unlisted _ _ _ c.unlisted.ensures refl refl)
+    by_answer a.words.now a.p _ (Ok _) _ c.status_in.ensures c.decide-decision.ensures.answer
+    c.in-Ok.is _ (says-unlisted _ _ _ c.unlisted.ensures refl refl)
 
-pub returns-in-Refused : goal.returns-in-Refused
-returns-in-Refused c =
+pub returns-in-Err : goal.returns-in-Err
+returns-in-Err c =
     let a = c.args in
-    by_answer a.words.now a.p _ (Refused _) _ c.status_in.ensures c.decide-decision.ensures.answer
-    c.in-Refused.is _ c.refused_because.ensures
+    by_answer a.words.now a.p _ (Err _) _ c.status_in.ensures c.decide-decision.ensures.answer
+    c.in-Err.is _ c.refused_because.ensures

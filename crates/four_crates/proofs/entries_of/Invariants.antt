@@ -9,6 +9,3 @@ use Rattle.four_crates.proofs.entries_of.Given as goal
 
 abbrev pub invariant-loop-k : goal.invariant-loop-k
 invariant-loop-k l = (l.k ≤ 40) × (l.entries ≡ take l.k (entries_of l.crates) ++ drop l.k (replicate 40 silent)) × (length l.entries ≡ 40)
-
-abbrev pub decreases-loop-k : goal.decreases-loop-k
-decreases-loop-k l = 40 - l.k

@@ -7,6 +7,3 @@ use Rattle.four_crates.proofs.record_at.Given as goal
 
 abbrev pub invariant-loop-k : goal.invariant-loop-k
 invariant-loop-k l = found l.crates l.k l.left ≡ record_answer l.crates l.ordinal
-
-abbrev pub decreases-loop-k : goal.decreases-loop-k
-decreases-loop-k l = 40 - l.k

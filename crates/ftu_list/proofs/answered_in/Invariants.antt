@@ -9,6 +9,3 @@ abbrev pub invariant-loop-k : goal.invariant-loop-k
 invariant-loop-k l =
     (l.from ≤ l.k) × (l.k ≤ l.to) × (l.n ≤ l.k)
     × (l.n + answered (take (l.to - l.k) (drop l.k l.entries)) ≡ answered (take (l.to - l.from) (drop l.from l.entries)))
-
-abbrev pub decreases-loop-k : goal.decreases-loop-k
-decreases-loop-k l = l.to - l.k

@@ -10,4 +10,4 @@ returns-then-e-eq0 c = simp (eq-eqb _ _ c.if-e-eq0.true)
 pub returns : goal.returns
 unfolding entry_words
 returns c =
-    simp (ne_eqb _ _ c.if-e-eq0.false) (rw (c.words64-dna.ensures, c.address_of-address.ensures))
+    simp (ne_eqb _ _ c.if-e-eq0.false) (rw (c.words-dna.ensures, c.address_of-address.ensures))

@@ -8,6 +8,3 @@ use Rattle.ftu_list.proofs.put_entries.Given as goal
 
 abbrev pub invariant-loop-k : goal.invariant-loop-k
 invariant-loop-k l = (l.k ≤ 40) × (l.body ≡ entry_words_from 0 (take l.k l.entries) ++ drop (6 * l.k) l.initial.body) × (length l.body ≡ length l.initial.body)
-
-abbrev pub decreases-loop-k : goal.decreases-loop-k
-decreases-loop-k l = 40 - l.k

@@ -1,6 +1,6 @@
 -- `packets::write_packet` meets its contract. Assumes nothing.
 use Rattle.packets.proofs.Laws.{write-15, write-19, written}
-use mathlib.Core.Path.{ap}
+use mathlib.Core.Path.{ap, ◌∙◌}
 use mathlib.Core.Bool.{not}
 use native.Mathlib.Omega.{arith}
 use borrow.Author.Rules.{rules}
@@ -14,4 +14,5 @@ returns-then-out-lt7 c = write-19 _ _ _ _ c.in_range.ensures (ap not c.if-not-in
 
 pub returns : goal.returns
 returns c =
-    written _ _ _ _ c.in_range.ensures (ap not c.if-not-in_range.false) (search rules) _ c.packet_bytes-bytes.ensures (omega arith)
+    written _ _ _ _ c.in_range.ensures (ap not c.if-not-in_range.false) (search rules) _
+    (c.copy_from_slice.ensures.after ∙ c.packet_bytes-bytes.ensures) (omega arith)

@@ -6,6 +6,3 @@ use Rattle.replies.proofs.counts_below.Given as goal
 
 abbrev pub invariant-loop-patch : goal.invariant-loop-patch
 invariant-loop-patch l = counts_below (5 - l.patch) l.patch l.reply ≡ rate_data l.reply
-
-abbrev pub decreases-loop-patch : goal.decreases-loop-patch
-decreases-loop-patch l = 5 - l.patch

@@ -1,48 +1,40 @@
 -- `replies::is_good` meets its contract: a return of false names the condition that fails. Assumes nothing.
 use Rattle.replies.proofs.Laws.{bad-length, bad-first, bad-destination, bad-sender, bad-code, bad-crc, by-data}
 use Rattle.replies.proofs.Zero.{right_zero, zero_right}
-use mathlib.Core.Path.{◌∙◌, sym, ap}
-use lib.Seq.{take_all}
-use Rattle.replies.specs.Replies.{data_right}
-use lib.ListN.{length-take}
+use Prim.Native.Nat.{◌<◌}
+use mathlib.Core.Path.{◌≡◌, ◌∙◌, sym}
+use lib.ListN.{length, get_or}
 use native.Mathlib.Omega.{arith}
 use Rattle.replies.proofs.is_good.Goals as goal
 
-pub returns-then-reply-ne28 : goal.returns-then-reply-ne28
-returns-then-reply-ne28 c = bad-length _ _ (omega arith)
+pub returns-in_default : goal.returns-in_default
+returns-in_default c = bad-length _ _ c.in_default.ensures.1
 
 pub returns-then-reply-ne64 : goal.returns-then-reply-ne64
-returns-then-reply-ne64 c = bad-first _ _ (omega arith)
+returns-then-reply-ne64 c = rw (← c.in-Ok.ensures.1.same) (bad-first _ _ (omega arith))
 
 pub returns-then-reply-sent : goal.returns-then-reply-sent
-returns-then-reply-sent c = bad-destination _ _ (omega arith)
+returns-then-reply-sent c = rw (← c.in-Ok.ensures.1.same) (bad-destination _ _ (omega arith))
 
 pub returns-then-reply-sent-2 : goal.returns-then-reply-sent-2
-returns-then-reply-sent-2 c = bad-sender _ _ (omega arith)
+returns-then-reply-sent-2 c = rw (← c.in-Ok.ensures.1.same) (bad-sender _ _ (omega arith))
 
 pub returns-then-reply-sent-3 : goal.returns-then-reply-sent-3
-returns-then-reply-sent-3 c = bad-code _ _ (omega arith)
-
-pub slice_bounds-crc8-end : goal.slice_bounds-crc8-end
-slice_bounds-crc8-end c = simp length-take (omega arith)
+returns-then-reply-sent-3 c = rw (← c.in-Ok.ensures.1.same) (bad-code _ _ (omega arith))
 
 pub returns-then-crc8-ne0 : goal.returns-then-crc8-ne0
 returns-then-crc8-ne0 c =
-    let a = c.args in
-    bad-crc _ _ (λ e. c.if-crc8-ne0.true (c.crc8.ensures ∙ right_zero a.reply.now (omega arith) e))
-
-pub slice_bounds-data_right-end : goal.slice_bounds-data_right-end
-slice_bounds-data_right-end c = simp length-take (omega arith)
-
-pub data_right-requires : goal.data_right-requires
-data_right-requires c = simp length-take (omega arith)
+    let whole = c.in-Ok.ensures.1 in
+    let long : length c.in-Ok.reply.now ≡ 28 = rw whole.same whole.long in
+    rw (← whole.same) (bad-crc _ _ (λ e. c.if-crc8-ne0.true (c.crc8.ensures ∙ right_zero c.in-Ok.reply.now long e)))
 
 pub returns : goal.returns
 returns c =
-    let a = c.args in
-    let r = a.reply.now in
-    let byte = c.type_inv.reply 27 in
-    by-data _ _ (omega arith) (omega arith) (omega arith) (omega arith) (omega arith)
-    (zero_right r (omega arith) (omega (arith, byte)) (sym c.crc8.ensures ∙ c.if-crc8-ne0.false))
+    let whole = c.in-Ok.ensures.1 in
+    let long : length c.in-Ok.reply.now ≡ 28 = rw whole.same whole.long in
+    let byte : get_or c.in-Ok.reply.now 27 0 < 256 = rw whole.same (let b = c.type_inv.reply 27 in omega arith) in
+    rw (← whole.same)
+    (by-data _ _ long (omega arith) (omega arith) (omega arith) (omega arith)
+    (zero_right c.in-Ok.reply.now long byte (sym c.crc8.ensures ∙ c.if-crc8-ne0.false))
     _
-    (c.data_right.ensures ∙ ap (data_right a.sent) (take_all 28 r (omega arith)))
+    c.data_right.ensures)

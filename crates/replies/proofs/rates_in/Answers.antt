@@ -8,11 +8,11 @@ use Rattle.replies.proofs.rates_in.Goals as goal
 pub returns : goal.returns
 returns c =
     rates-of _ _ _ _ _ _
-    (c.words32-a.ensures ∙ ap (digits 65536 2) c.count_in.ensures)
-    (c.words32-b.ensures ∙ ap (digits 65536 2) c.count_in-2.ensures)
-    (c.words32-c.ensures ∙ ap (digits 65536 2) c.count_in-3.ensures)
-    (c.words32-d.ensures ∙ ap (digits 65536 2) c.count_in-4.ensures)
-    (c.words32-total.ensures ∙ ap (digits 65536 2) c.count_in-5.ensures)
+    (c.words-a.ensures ∙ ap (digits 65536 2) c.count_in.ensures)
+    (c.words-b.ensures ∙ ap (digits 65536 2) c.count_in-2.ensures)
+    (c.words-c.ensures ∙ ap (digits 65536 2) c.count_in-3.ensures)
+    (c.words-d.ensures ∙ ap (digits 65536 2) c.count_in-4.ensures)
+    (c.words-total.ensures ∙ ap (digits 65536 2) c.count_in-5.ensures)
     _
     _
     (as-word _ _ c.byte_at.ensures (omega arith))

@@ -1,56 +1,34 @@
 -- `script::order_on` meets its contract. Assumes nothing.
-use mathlib.Core.Path.{ap, ◌∙◌}
-use Rattle.script.proofs.Characters.{order-space, order-no-digit, order-full, order-digit, order-high, order-low}
-use Rattle.script.specs.ByCharacter.{with_digit, with_byte}
+use Prim.Native.Nat.{ℕ, ◌<◌}
+use mathlib.Core.Path.{◌≡◌, ap, ◌∙◌}
 use native.Mathlib.Omega.{arith}
+use Rattle.std.specs.Char.{digit_value}
+use Rattle.script.specs.Script.{value_of}
+use Rattle.script.specs.ByCharacter.{with_digit, with_byte}
+use Rattle.script.proofs.Characters.{value_is, order-digit, order-high, order-low}
 use Rattle.script.proofs.order_on.Goals as goal
-use Rattle.script.proofs.order_on.Goals.{then-digits-eq1, else-digits-eq1}
+use Rattle.script.proofs.order_on.Goals.{then-reading-eq1, else-reading-eq1}
 
-pub returns-then-character-eq32-clause-value : goal.returns-then-character-eq32-clause-value
-returns-then-character-eq32-clause-value c =
-    let a = c.args in
-    (order-space a.reading a.character a.bytes.now (omega arith)).0
-
-pub returns-then-character-eq32-clause-bytes_after : goal.returns-then-character-eq32-clause-bytes_after
-returns-then-character-eq32-clause-bytes_after c =
-    let a = c.args in
-    (order-space a.reading a.character a.bytes.now (omega arith)).1
-
-pub returns-then-value-gt15-clause-value : goal.returns-then-value-gt15-clause-value
-returns-then-value-gt15-clause-value c =
-    let a = c.args in
-    c.in_form.ensures ∙ (order-no-digit a.reading a.character a.bytes.now (omega arith) (omega arith)).0
-
-pub returns-then-value-gt15-clause-bytes_after : goal.returns-then-value-gt15-clause-bytes_after
-returns-then-value-gt15-clause-bytes_after c =
-    let a = c.args in
-    (order-no-digit a.reading a.character a.bytes.now (omega arith) (omega arith)).1
-
-pub returns-then-digits-gt4095-clause-value : goal.returns-then-digits-gt4095-clause-value
-returns-then-digits-gt4095-clause-value c =
-    let a = c.args in
-    c.in_form-then-digits-gt4095.ensures ∙ (order-full a.reading a.character a.bytes.now (omega arith) (omega arith) (omega arith)).0
-
-pub returns-then-digits-gt4095-clause-bytes_after : goal.returns-then-digits-gt4095-clause-bytes_after
-returns-then-digits-gt4095-clause-bytes_after c =
-    let a = c.args in
-    (order-full a.reading a.character a.bytes.now (omega arith) (omega arith) (omega arith)).1
+-- v is what the library makes of the character
+value-of : {c k v : ℕ} → k ≡ c → (digit_value k < 16) × (v ≡ digit_value k) → v ≡ value_of c
+value-of {k = k} e d = let v = value_is k in omega arith ∙ ap value_of e
 
 pub returns-clause-value : goal.returns-clause-value
 returns-clause-value c =
     let a = c.args in
-    let v = c.value_of-value.ensures in
+    let d = c.in-Some.ensures.value in
+    let v : c.in-Some.digit ≡ value_of a.character = value-of c.from.ensures d in
     ap (with_digit a.reading) v ∙ order-digit a.reading a.character a.bytes.now (omega arith) (omega arith) (omega arith)
 
 pub returns-clause-bytes_after : goal.returns-clause-bytes_after
 returns-clause-bytes_after c =
     let a = c.args in
-    let r = a.reading in
     let bytes = a.bytes.now in
-    let v = c.value_of-value.ensures in
-    elim c.if-digits-eq1.branch [
-      | then-digits-eq1 w ↦
-          w.bytes-is ∙ ap (λ v. with_byte r v bytes) v
-          ∙ order-low r a.character bytes (omega arith) (omega arith) (omega arith) w.if-digits-eq1.true
-      | else-digits-eq1 w ↦ w.bytes-is ∙ order-high r a.character bytes (omega arith) (omega arith) (omega arith) w.if-digits-eq1.false
+    let d = c.in-Some.ensures.value in
+    let v : c.in-Some.digit ≡ value_of a.character = value-of c.from.ensures d in
+    elim c.if-reading-eq1.branch [
+      | then-reading-eq1 w ↦
+          w.bytes-is ∙ ap (λ (v : ℕ). with_byte a.reading v bytes) v
+          ∙ order-low a.reading a.character bytes (omega arith) (omega arith) (omega arith) w.if-reading-eq1.true
+      | else-reading-eq1 w ↦ w.bytes-is ∙ order-high a.reading a.character bytes (omega arith) (omega arith) (omega arith) w.if-reading-eq1.false
     ]

@@ -12,9 +12,9 @@ loop-i-preserved c =
     let l = c.loop-i in
     let a = c.args in (
       omega arith,
-      ap (λ (β : Board). time_ups (30 - (l.i + 1)) a.c β) c.hand_in-r.ensures.board
-          ∙ sym (more-time-ups 30 a.c l.b l.i (omega arith)) ∙ l.invariant.1,
+      ap (λ (β : Board). time_ups (30 - (l._i + 1)) a.c β) c.hand_in-r.ensures.board
+          ∙ sym (more-time-ups 30 a.c l.b l._i (omega arith)) ∙ l.invariant.1,
     )
 
 pub returns : goal.returns
-returns c = sym (no-time-ups 30 c.args.c c.loop-i.b c.loop-i.i (omega arith)) ∙ c.loop-i.invariant.1
+returns c = sym (no-time-ups 30 c.args.c c.loop-i.b c.loop-i._i (omega arith)) ∙ c.loop-i.invariant.1

@@ -5,7 +5,4 @@ use Rattle.stream.specs.Stream.{time_ups}
 use Rattle.stream.proofs.run_out_on.Given as goal
 
 abbrev pub invariant-loop-i : goal.invariant-loop-i
-invariant-loop-i l = (l.i ≤ 30) × (time_ups (30 - l.i) l.c l.b ≡ time_ups 30 l.c l.initial.b)
-
-abbrev pub decreases-loop-i : goal.decreases-loop-i
-decreases-loop-i l = 30 - l.i
+invariant-loop-i l = (l._i ≤ 30) × (time_ups (30 - l._i) l.c l.b ≡ time_ups 30 l.c l.initial.b)
