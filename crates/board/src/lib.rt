@@ -15,7 +15,7 @@ ghost use Rattle.board.specs.SlowControl.{judged_at, Replies, Fetches, sent_answ
 ghost use Rattle.board.specs.RatePass.{rates_begun, Begins};
 ghost use Rattle.board.specs.SentOut.{header_of, SendsStatic, SendsDynamic, SendsList, SendsFailure};
 
-use acceptance::{Status, decide};
+use acceptance::{Decision, Status, decide};
 use blocks::{Header, write_dynamic, write_failure, write_static};
 use command_reader::block_before;
 use commands::Command;
@@ -26,7 +26,7 @@ use ftu_list::{FtuList, write_list};
 use numbers::ID_LIMIT;
 use packets::Fields;
 use refusals::Refusal;
-use run::{Run, run_at_power_up};
+use run::{Run, Triggered, run_at_power_up};
 use steps::{Event, step_frame, write_frame};
 use words::copy_words;
 
@@ -93,19 +93,17 @@ pub struct ReplyResult {
 fn fresh_board(board_id: u64, firmware_id: u16) -> Board
     ensures { result ≡ fresh_board board_id firmware_id }
 {
-    let run = run_at_power_up();
-    let k = crate_at_power_up();
     Board {
         block: [0; 436],
         rates: [0; 480],
-        crates: [k; 4],
+        crates: [crate_at_power_up(); 4],
         active: [0; 4],
         kind: PassKind::Reprogramming,
         identity: Identity {
             board_id,
             firmware_id,
         },
-        run,
+        run: run_at_power_up(),
     }
 }
 
@@ -197,25 +195,17 @@ impl Board {
     pub fn is_idle(self) -> bool
         ensures { result ≡ is_idle self }
     {
-        let run = self.run;
-        let crates = self.crates;
-        if run.is_running() {
-            return false;
-        }
-        !in_pass(crates)
+        !self.run.is_running() && !in_pass(self.crates)
     }
 
     // What the state is to a command.
     fn status(self) -> Status
         ensures { result ≡ status_of self }
     {
-        let run = self.run;
-        let freshness = run.freshness;
-        let fresh = freshness.is_fresh();
         Status {
             idle: self.is_idle(),
-            running: run.is_running(),
-            fresh,
+            running: self.run.is_running(),
+            fresh: self.run.freshness.is_fresh(),
         }
     }
 
@@ -261,14 +251,13 @@ impl Board {
         requires { answer_of answer ≡ given Write → length block.now ≡ 436 }
         ensures { result ≡ after_command self block.now (answer_of answer) }
     {
-        let run = self.run;
         match answer {
             Err(_) => {}
             Ok(c) => match c {
                 Command::Read(_) => {}
-                Command::Start(length) => self.run = run.start(length),
-                Command::Stop => self.run = run.stop(),
-                Command::CrateReset(_) => self.run = run.crate_reset(),
+                Command::Start(length) => self.run = self.run.start(length),
+                Command::Stop => self.run = self.run.stop(),
+                Command::CrateReset(_) => self.run = self.run.crate_reset(),
                 Command::Write | Command::Ping => self = self.begin(c.is_write(), block),
             },
         }
@@ -279,9 +268,7 @@ impl Board {
     pub fn obey(self, words: &[u16]) -> CommandResult
         ensures { Obeys self words.now result }
     {
-        let decision = decide(words, self.status());
-        let answer = decision.answer;
-        let used = decision.used;
+        let Decision { answer, used } = decide(words, self.status());
         let block = block_before(words, used);
         CommandResult {
             board: self.carry_out(answer, block),
@@ -294,13 +281,9 @@ impl Board {
     fn present(self) -> Present
         ensures { result ≡ present_of self }
     {
-        let run = self.run;
-        let crates = self.crates;
-        let kind = self.kind;
-        let freshness = run.freshness;
         Present {
-            activity: activity_of(run.is_running(), in_pass(crates), kind),
-            freshness,
+            activity: activity_of(self.run.is_running(), in_pass(self.crates), self.kind),
+            freshness: self.run.freshness,
         }
     }
 
@@ -315,20 +298,16 @@ impl Board {
     pub fn clock(self, ticks: u32) -> Board
         ensures { result ≡ after_clock_step self ticks }
     {
-        let run = self.run;
-        self.with_run(run.clock(ticks))
+        self.with_run(self.run.clock(ticks))
     }
 
     // A trigger, whose packet goes into the lent bytes.
     pub fn trigger(self, fields: Fields, out: &mut [u8]) -> TriggerResult
         ensures { TriggersOn self fields out.old result out.new }
     {
-        let run = self.run;
-        let t = run.trigger(fields, out);
-        let answer = t.answer;
-        let next = t.run;
+        let Triggered { run, answer } = self.run.trigger(fields, out);
         TriggerResult {
-            board: self.with_run(next),
+            board: self.with_run(run),
             answer,
         }
     }
@@ -337,16 +316,13 @@ impl Board {
     fn finished_rates(self) -> [u16; 480]
         ensures { result ≡ finished_rates self }
     {
-        let kind = self.kind;
-        let rates = self.rates;
-        let crates = self.crates;
-        if is_rate_pass(kind) {
-            if in_pass(crates) {
-                return rates;
+        if is_rate_pass(self.kind) {
+            if in_pass(self.crates) {
+                return self.rates;
             }
-            return rates_of(crates);
+            return rates_of(self.crates);
         }
-        rates_of(crates)
+        rates_of(self.crates)
     }
 
     // The board as a rate pass begins.
@@ -376,8 +352,7 @@ impl Board {
     pub fn begin_rate_pass(self) -> BeginResult
         ensures { Begins self result }
     {
-        let crates = self.crates;
-        if in_pass(crates) {
+        if in_pass(self.crates) {
             return BeginResult {
                 board: self,
                 answer: Err(Refusal::NotAcceptedNow),
@@ -422,9 +397,8 @@ impl Board {
     pub fn first_frame(self, index: u8, out: &mut [u8]) -> Result<usize, Refusal>
         ensures { Fetches self index out.old result out.new }
     {
-        let crates = self.crates;
         let block = self.block;
-        let (board, code) = first_on(crates, index)?;
+        let (board, code) = first_on(self.crates, index)?;
         write_frame(step_frame(&block, index, board, code), out)
     }
 
@@ -432,21 +406,18 @@ impl Board {
     pub fn frames_sent(self, index: u8) -> Result<u16, Refusal>
         ensures { answer_of result ≡ sent_answer self index }
     {
-        let crates = self.crates;
-        sent_on(crates, index)
+        sent_on(self.crates, index)
     }
 
     // The header of every block sent out.
     fn header(self) -> Header
         ensures { result ≡ header_of self }
     {
-        let identity = self.identity;
-        let run = self.run;
         Header {
-            board_id: identity.board_id,
-            firmware_id: identity.firmware_id,
-            trigger_counter: run.trigger_counter,
-            timestamp: run.timestamp,
+            board_id: self.identity.board_id,
+            firmware_id: self.identity.firmware_id,
+            trigger_counter: self.run.trigger_counter,
+            timestamp: self.run.timestamp,
         }
     }
 
@@ -454,29 +425,26 @@ impl Board {
     pub fn static_block(self, out: &mut [u16]) -> Result<usize, Refusal>
         ensures { SendsStatic self out.old result out.new }
     {
-        let block = self.block;
-        write_static(self.header(), block, out)
+        write_static(self.header(), self.block, out)
     }
 
     // The dynamic block, with lent temperatures, into lent words.
     pub fn dynamic_block(self, temperatures: &[u16], out: &mut [u16]) -> Result<usize, Refusal>
         ensures { SendsDynamic self temperatures.now out.old result out.new }
     {
-        let run = self.run;
         let rates = self.finished_rates();
-        write_dynamic(self.header(), run.on_time, temperatures, rates, out)
+        write_dynamic(self.header(), self.run.on_time, temperatures, rates, out)
     }
 
     // The FTU list, into lent words.
     pub fn ftu_list(self, out: &mut [u16]) -> Result<usize, Refusal>
         ensures { SendsList self out.old result out.new }
     {
-        let active = self.active;
-        let crates = self.crates;
-        if in_pass(crates) {
+        if in_pass(self.crates) {
             return Err(Refusal::NotAcceptedNow);
         }
-        let entries = entries_of(crates);
+        let active = self.active;
+        let entries = entries_of(self.crates);
         write_list(self.header(), FtuList { active, entries }, out)
     }
 
@@ -484,12 +452,11 @@ impl Board {
     pub fn failure_message(self, ordinal: usize, out: &mut [u16]) -> Result<usize, Refusal>
         ensures { SendsFailure self ordinal out.old result out.new }
     {
-        let crates = self.crates;
-        let block = self.block;
-        if in_pass(crates) {
+        if in_pass(self.crates) {
             return Err(Refusal::NotAcceptedNow);
         }
-        let f = record_at(crates, ordinal)?;
+        let block = self.block;
+        let f = record_at(self.crates, ordinal)?;
         let frame = step_frame(&block, f.k / 10, f.k % 10, f.code);
         write_failure(self.header(), 3, frame, out)
     }

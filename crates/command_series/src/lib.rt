@@ -33,6 +33,7 @@ pub fn obey_series(words: &[u16], count: u64) -> AfterCommands
     let mut refusal = 0;
     let mut rest = words;
     for _i in 0..count {
+        // (By names of their own: read where they stand, an accepted write from power-up takes a tenth more.)
         let done = board.obey(rest);
         let answer = done.answer;
         let next = done.board;

@@ -61,17 +61,15 @@ fn power_up_order(board: Board, bytes: &[u8]) -> Answered
     let mut w = [0u16; 5];
     let _ = words_from_bytes(bytes, &mut w);
     let up = power_up(number64(w[0], w[1], w[2], w[3]), w[4]);
-    let answer = up.answer;
-    let fresh = up.board;
-    match answer {
+    match up.answer {
         Ok(()) => Answered {
             response: Response::One(0),
-            board: fresh,
+            board: up.board,
         },
-        Err(r) => {
-            let response = refusal_response(r);
-            Answered { response, board }
-        }
+        Err(refusal) => Answered {
+            response: refusal_response(refusal),
+            board,
+        },
     }
 }
 
@@ -87,11 +85,9 @@ fn command_order(board: Board, bytes: &[u8]) -> Answered
     let _ = words_from_bytes(bytes, &mut words);
     let count = bytes.len() / 2;
     let done = board.obey(&words[..count]);
-    let answer = done.answer;
-    let next = done.board;
     Answered {
-        response: command_response(answer, done.used),
-        board: next,
+        response: command_response(done.answer, done.used),
+        board: done.board,
     }
 }
 
@@ -158,12 +154,10 @@ fn trigger_order(board: Board, bytes: &[u8], out: &mut [u8; 28]) -> Answered
     ensures { AnswersInBytes board (trigger_order bytes.now) result out.new }
 {
     if are_fields(bytes) {
-        let t = board.trigger(fields_from(bytes), out);
-        let answer = t.answer;
-        let next = t.board;
+        let triggered = board.trigger(fields_from(bytes), out);
         return Answered {
-            response: bytes_response(answer),
-            board: next,
+            response: bytes_response(triggered.answer),
+            board: triggered.board,
         };
     }
     other_form(board)
@@ -174,11 +168,9 @@ fn event_order(board: Board, index: u8, event: Event, bytes: &[u8], out: &mut [u
     ensures { AnswersInBytes board (event_order event index bytes.now) result out.new }
 {
     let replied = board.hand_in(index, event, bytes, out);
-    let answer = replied.answer;
-    let next = replied.board;
     Answered {
-        response: outcome_response(answer),
-        board: next,
+        response: outcome_response(replied.answer),
+        board: replied.board,
     }
 }
 
@@ -210,16 +202,14 @@ fn begin_rates_order(board: Board, bytes: &[u8]) -> Answered
         return other_form(board);
     }
     let begun = board.begin_rate_pass();
-    let answer = begun.answer;
-    let next = begun.board;
-    match answer {
+    match begun.answer {
         Ok(()) => Answered {
             response: Response::One(0),
-            board: next,
+            board: begun.board,
         },
-        Err(r) => Answered {
-            response: refusal_response(r),
-            board: next,
+        Err(refusal) => Answered {
+            response: refusal_response(refusal),
+            board: begun.board,
         },
     }
 }
@@ -359,11 +349,9 @@ fn serve_on_board(board: Board, letter: u8, bytes: &[u8], text: &mut [u8; 2560])
     let mut out = [0u8; 28];
     let mut words = [0u16; 498];
     let answered = serve_order(board, letter, bytes, &mut out, &mut words);
-    let response = answered.response;
-    let next = answered.board;
     ServedLine {
-        length: write_response(response, &out, &words, text),
-        board: next,
+        length: write_response(answered.response, &out, &words, text),
+        board: answered.board,
     }
 }
 
@@ -412,14 +400,13 @@ fn serve_letter(board: Board, letter: u8, bytes: &[u8], text: &mut [u8; 2560]) -
 fn serve_read(board: Board, reading: Reading, bytes: &[u8], text: &mut [u8; 2560]) -> ServedLine
     ensures { ServesLine board (order_in reading bytes.now) text.old result text.new }
 {
-    let digits = reading.digits;
-    if 4096 < digits {
+    if 4096 < reading.digits {
         return question(board, text);
     }
-    if digits % 2 != 0 {
+    if reading.digits % 2 != 0 {
         return question(board, text);
     }
-    let count = (digits / 2).min(bytes.len());
+    let count = (reading.digits / 2).min(bytes.len());
     serve_letter(board, reading.letter, &bytes[..count], text)
 }
 
@@ -427,8 +414,7 @@ fn serve_read(board: Board, reading: Reading, bytes: &[u8], text: &mut [u8; 2560
 pub fn serve_line(board: Board, reading: Reading, bytes: &[u8], text: &mut [u8; 2560]) -> ServedLine
     ensures { ServesLine board (line_in reading bytes.now) text.old result text.new }
 {
-    let form = reading.form;
-    match form {
+    match reading.form {
         Form::Empty => ServedLine { length: 0, board },
         Form::Comment => ServedLine { length: 0, board },
         Form::Order => serve_read(board, reading, bytes, text),

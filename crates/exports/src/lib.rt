@@ -63,10 +63,7 @@ pub fn ftm_pass(words: &[u16], items: &[u8], frame: &mut [u8], good: &mut [u64])
         return refusal;
     }
     let board = done.board;
-    let crates = board.crates;
-    let block = board.block;
-    let kind = board.kind;
-    good[0] = good_replies(crates, &block, kind, items, frame);
+    good[0] = good_replies(board.crates, &board.block, board.kind, items, frame);
     0
 }
 
@@ -79,8 +76,7 @@ pub fn ftm_replies(words: &[u16], items: &[u8], frame: &mut [u8], good: &mut [u6
     if refusal != 0 {
         return refusal;
     }
-    let board = done.board;
-    good[0] = count_on_board(board, Event::Reply, items, frame);
+    good[0] = count_on_board(done.board, Event::Reply, items, frame);
     0
 }
 
@@ -94,8 +90,7 @@ pub fn ftm_time_ups(words: &[u16], crates: &[u8], frame: &mut [u8], served: &mut
     if refusal != 0 {
         return refusal;
     }
-    let board = done.board;
-    served[0] = count_on_board(board, Event::TimeUp, crates, frame);
+    served[0] = count_on_board(done.board, Event::TimeUp, crates, frame);
     0
 }
 
@@ -109,10 +104,8 @@ pub fn ftm_rate_pass(words: &[u16], items: &[u8], frame: &mut [u8], good: &mut [
     if refusal != 0 {
         return refusal;
     }
-    let board = done.board;
-    let begun = run_out(board).begin_rate_pass();
-    let in_pass = begun.board;
-    good[0] = count_on_board(in_pass, Event::Reply, items, frame);
+    let begun = run_out(done.board).begin_rate_pass();
+    good[0] = count_on_board(begun.board, Event::Reply, items, frame);
     0
 }
 
@@ -129,11 +122,9 @@ pub fn ftm_clock_steps(words: &[u16], ticks: &[u32], out: &mut [u64]) -> u8
     let mut board = done.board;
     for (i, step) in ticks.iter().enumerate() {
         board = board.clock(*step);
-        let run = board.run;
-        out[i] = run.timestamp;
+        out[i] = board.run.timestamp;
     }
-    let run = board.run;
-    out[ticks.len()] = run.on_time;
+    out[ticks.len()] = board.run.on_time;
     0
 }
 
@@ -155,10 +146,8 @@ fn given_triggers(first: Board, count: usize, out: &mut [u8]) -> u64
     let mut board = first;
     for i in 0..count {
         let t = board.trigger(fields, &mut out[7 * i..]);
-        let answer = t.answer;
-        let next = t.board;
-        match answer {
-            Ok(_) => board = next,
+        match t.answer {
+            Ok(_) => board = t.board,
             Err(_) => return i as u64,
         }
     }
@@ -175,8 +164,7 @@ pub fn ftm_triggers(words: &[u16], count: usize, packets: &mut [u8], number: &mu
     if refusal != 0 {
         return refusal;
     }
-    let board = done.board;
-    number[0] = given_triggers(board, count, packets);
+    number[0] = given_triggers(done.board, count, packets);
     0
 }
 

@@ -4,4 +4,4 @@ use Rattle.board.proofs.fresh_board.Goals as goal
 
 pub returns : goal.returns
 unfolding fresh_board
-returns c = rw (c.crate_at_power_up-k.ensures, c.run_at_power_up-run.ensures)
+returns c = rw (c.crate_at_power_up.ensures, c.run_at_power_up.ensures)

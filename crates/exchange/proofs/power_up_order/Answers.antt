@@ -18,4 +18,4 @@ returns-in-Err c =
     power-up-refused a.board a.bytes.now _ c.if-bytes-ne10.false
     (words-whole a.bytes.now _ _ _ c.words_from_bytes.ensures (search rules))
     c.number64.result c.number64.ensures c.power_up-up.result c.power_up-up.ensures
-    _ c.refusal_response-response.result c.in-Err.is c.refusal_response-response.ensures
+    _ c.refusal_response.result c.in-Err.is c.refusal_response.ensures

@@ -5,6 +5,6 @@ use Rattle.board.proofs.Board.obey.Goals as goal
 pub carry_out-requires : goal.carry_out-requires
 carry_out-requires c =
     let a = c.args in
-    let answer = rw c.status.ensures at c.decide-decision.ensures.answer in
-    block-whole a.self a.words.now c.decide-decision.result.answer answer
-    _ c.decide-decision.ensures.used _ c.block_before-block.ensures.contents
+    let answer = rw c.status.ensures at c.decide-answer.ensures.answer in
+    block-whole a.self a.words.now c.decide-answer.result.answer answer
+    _ c.decide-answer.ensures.used _ c.block_before-block.ensures.contents
