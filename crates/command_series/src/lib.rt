@@ -27,21 +27,16 @@ pub struct AfterCommands {
 pub fn obey_series(words: &[u16], count: u64) -> AfterCommands
     ensures { ObeysAll count words.now result }
 {
-    let up = power_up(0, 0);
-    let mut board = up.board;
+    let mut board = power_up(0, 0).board;
     let mut accepted = 0;
     let mut refusal = 0;
     let mut rest = words;
     for _i in 0..count {
-        // (By names of their own: read where they stand, an accepted write from power-up takes a tenth more.)
         let done = board.obey(rest);
-        let answer = done.answer;
-        let next = done.board;
-        let after = rest_after(rest, done.used);
-        rest = after;
-        accepted += count_given(&answer);
-        refusal = first_of(refusal, number_given(&answer));
-        board = next;
+        rest = rest_after(rest, done.used);
+        accepted += count_given(&done.answer);
+        refusal = first_of(refusal, number_given(&done.answer));
+        board = done.board;
     }
     AfterCommands {
         board,
