@@ -63,7 +63,9 @@ pub fn ftm_pass(words: &[u16], items: &[u8], frame: &mut [u8], good: &mut [u64])
         return refusal;
     }
     let board = done.board;
-    good[0] = good_replies(board.crates, &board.block, board.kind, items, frame);
+    // In a local: with the block lent out of the board, all of it may be copied (DECISIONS, "What a call on the whole board costs").
+    let block = board.block;
+    good[0] = good_replies(board.crates, &block, board.kind, items, frame);
     0
 }
 

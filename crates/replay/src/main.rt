@@ -16,27 +16,30 @@ struct Replay {
 }
 
 impl Replay {
-    // Serves the line that is read, prints what it gets, and begins the next.
-    fn serve(&mut self, rt: &impl Print) -> io::Result<()> {
+    // Serves a line that is read, and prints what it gets.
+    fn serve(&mut self, rt: &impl Print, reading: Reading) -> io::Result<()> {
         let mut text = [0; 2560];
-        let served = serve_line(self.board, self.reading, &self.bytes, &mut text);
+        let served = serve_line(self.board, reading, &self.bytes, &mut text);
         self.board = served.board;
-        self.reading = line_begun();
         if let Some(printed) = text.get(..served.length) {
             rt.write_all(printed)?;
         }
         Ok(())
     }
 
-    // Reads a part of the input, and serves each line that ends in it.
+    // Reads a part of the input, and serves each line that ends in it. (What is read of the line stands in a local: through `self` a character
+    // takes longer.)
     fn read(&mut self, rt: &impl Print, part: &[u8]) -> io::Result<()> {
+        let mut reading = self.reading;
         for character in part {
             if *character == b'\n' {
-                self.serve(rt)?;
+                self.serve(rt, reading)?;
+                reading = line_begun();
             } else {
-                self.reading = read_on(self.reading, *character, &mut self.bytes);
+                reading = read_on(reading, *character, &mut self.bytes);
             }
         }
+        self.reading = reading;
         Ok(())
     }
 }
@@ -58,5 +61,6 @@ fn main(rt: HostRuntime) -> io::Result<()> {
         replay.read(&rt, &input[..count])?;
     }
     // The last line may end with the input.
-    replay.serve(&rt)
+    let last = replay.reading;
+    replay.serve(&rt, last)
 }

@@ -1,8 +1,8 @@
 // Replies to slow-control frames: when one is good, and what a good reply to a ping and one with rates carry.
 #![tactic(auto)]
 
-ghost use Rattle.std.specs.Prelude.{◌≡◌, ◌<◌, get_or};
-ghost use Rattle.replies.specs.Replies.{dna_in, count_in, rate_data, data_right, good_reply, carried_in, rates_in};
+ghost use Rattle.std.specs.Prelude.{◌≡◌, ◌<◌, ◌-◌, get_or};
+ghost use Rattle.replies.specs.Replies.{same_from, dna_in, count_in, rate_data, data_right, good_reply, carried_in, rates_in};
 
 use crc::FRAME_START;
 use numbers::{ID_LIMIT, words};
@@ -24,6 +24,20 @@ fn byte_at(bytes: &[u8], place: usize) -> u8
     ensures { result ≡ get_or bytes.now place 0 }
 {
     bytes.get(place).copied().unwrap_or(0)
+}
+
+// Whether the reply's data from a place on, to byte 25, are those of another frame. Each byte is looked at, so that several are compared at once,
+// and no call is made: a call of the library's comparison of slices keeps the compiler from taking a reply's board apart, which is then copied.
+fn same_from(from: usize, other: [u8; 28], reply: &[u8; 28]) -> bool
+    ensures { result ≡ same_from (26 - from) from other reply.now }
+{
+    let mut same = true;
+    for i in from..26 {
+        if reply[i] != other[i] {
+            same = false;
+        }
+    }
+    same
 }
 
 // The DNA in a ping reply; a byte that is not there counts as 0.
@@ -58,9 +72,9 @@ fn data_right(sent: [u8; 28], reply: &[u8; 28]) -> bool
     ensures { result ≡ data_right sent reply.now }
 {
     match sent[4] {
-        4 => dna_in(reply) < ID_LIMIT && reply[13..26] == [0; 13],
+        4 => dna_in(reply) < ID_LIMIT && same_from(13, [0; 28], reply),
         5 => counts_below(reply),
-        _ => reply[5..26] == sent[5..26],
+        _ => same_from(5, sent, reply),
     }
 }
 

@@ -1,6 +1,6 @@
 -- `replies::is_good` meets its contract: a return of false names the condition that fails. Assumes nothing.
 use Rattle.replies.proofs.Laws.{bad-length, bad-first, bad-destination, bad-sender, bad-code, bad-crc, by-data}
-use Rattle.replies.proofs.Zero.{right_zero, zero_right}
+use Rattle.replies.proofs.Zero.{whole, right_zero, zero_right}
 use Prim.Native.Nat.{◌<◌}
 use mathlib.Core.Path.{◌≡◌, ◌∙◌, sym}
 use lib.ListN.{length, get_or}
@@ -24,17 +24,18 @@ returns-then-reply-sent-3 c = rw (← c.in-Ok.ensures.1.same) (bad-code _ _ (ome
 
 pub returns-then-crc8-ne0 : goal.returns-then-crc8-ne0
 returns-then-crc8-ne0 c =
-    let whole = c.in-Ok.ensures.1 in
-    let long : length c.in-Ok.reply.now ≡ 28 = rw whole.same whole.long in
-    rw (← whole.same) (bad-crc _ _ (λ e. c.if-crc8-ne0.true (c.crc8.ensures ∙ right_zero c.in-Ok.reply.now long e)))
+    let same = c.in-Ok.ensures.1 in
+    let long : length c.in-Ok.reply.now ≡ 28 = rw same.same same.long in
+    rw (← same.same)
+    (bad-crc _ _ (λ e. c.if-crc8-ne0.true (c.crc8.ensures ∙ whole c.in-Ok.reply.now long ∙ right_zero c.in-Ok.reply.now (omega arith) e)))
 
 pub returns : goal.returns
 returns c =
-    let whole = c.in-Ok.ensures.1 in
-    let long : length c.in-Ok.reply.now ≡ 28 = rw whole.same whole.long in
-    let byte : get_or c.in-Ok.reply.now 27 0 < 256 = rw whole.same (let b = c.type_inv.reply 27 in omega arith) in
-    rw (← whole.same)
+    let same = c.in-Ok.ensures.1 in
+    let long : length c.in-Ok.reply.now ≡ 28 = rw same.same same.long in
+    let byte : get_or c.in-Ok.reply.now 27 0 < 256 = rw same.same (let b = c.type_inv.reply 27 in omega arith) in
+    rw (← same.same)
     (by-data _ _ long (omega arith) (omega arith) (omega arith) (omega arith)
-    (zero_right c.in-Ok.reply.now long byte (sym c.crc8.ensures ∙ c.if-crc8-ne0.false))
+    (zero_right c.in-Ok.reply.now (omega arith) byte (sym (whole c.in-Ok.reply.now long) ∙ sym c.crc8.ensures ∙ c.if-crc8-ne0.false))
     _
     c.data_right.ensures)

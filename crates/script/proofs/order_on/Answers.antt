@@ -25,7 +25,7 @@ returns-clause-bytes_after c =
     let a = c.args in
     let bytes = a.bytes.now in
     let d = c.in-Some.ensures.value in
-    let v : c.in-Some.digit ≡ value_of a.character = value-of c.from.ensures d in
+    let v : c.in-Some.digit ≡ value_of a.character = value-of c.from.ensures c.in-Some.ensures.value in
     elim c.if-reading-eq1.branch [
       | then-reading-eq1 w ↦
           w.bytes-is ∙ ap (λ (v : ℕ). with_byte a.reading v bytes) v
