@@ -27,8 +27,7 @@ impl Replay {
         Ok(())
     }
 
-    // Reads a part of the input, and serves each line that ends in it. (What is read of the line stands in a local: through `self` a character
-    // takes longer.)
+    // Reads a part of the input, and serves each line that ends in it.
     fn read(&mut self, rt: &impl Print, part: &[u8]) -> io::Result<()> {
         let mut reading = self.reading;
         for character in part {
